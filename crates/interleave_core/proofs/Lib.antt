@@ -1,0 +1,10 @@
+pub mod Chains
+pub mod Sectors
+pub mod Kept
+pub mod Hands
+pub mod Good
+pub mod Events
+pub mod Always
+pub mod Wrong
+pub mod Stepped
+pub mod Answering

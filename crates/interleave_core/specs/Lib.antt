@@ -1,0 +1,9 @@
+pub mod World
+pub mod Fits
+pub mod Event
+pub mod Sound
+pub mod Schedule
+pub mod Journal
+pub mod JournalInside
+pub mod MachineInside
+pub mod Summary

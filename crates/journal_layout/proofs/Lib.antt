@@ -1,0 +1,5 @@
+pub mod LogParts
+pub mod OneOutcome
+mod Ranges
+pub mod SameGate
+pub mod SameRecord

@@ -1,0 +1,15 @@
+// What a gate says.
+use vd_base::StoreId;
+
+/// The gate of an area: it makes the map and the log of its epoch count.
+#[derive(Clone, Copy, Debug, PartialEq, Eq, Drop)]
+pub struct Gate {
+    /// 1 or 2: which records its log may have.
+    pub version: u8,
+    /// Below 2^63. Its remainder by 2 is the area.
+    pub epoch: u64,
+    /// The store.
+    pub id: StoreId,
+    /// How many sectors each log has: 1 to 65,536.
+    pub log_sectors: u32,
+}

@@ -1,0 +1,6 @@
+mod Answering
+mod Gets
+mod Live
+mod LogRecords
+mod MapPlaces
+mod Records

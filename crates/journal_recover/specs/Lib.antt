@@ -1,0 +1,5 @@
+pub mod Causes
+pub mod Gates
+pub mod Maps
+pub mod Logs
+pub mod Answers

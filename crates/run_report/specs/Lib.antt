@@ -1,0 +1,5 @@
+pub mod Texts
+pub mod Says
+pub mod Status
+pub mod Findings
+pub mod Lines

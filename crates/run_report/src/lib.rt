@@ -1,0 +1,19 @@
+//! What a command prints: its lines, how they go out, and the status that it ends with.
+//!
+//! Each line is exactly its definition. `Printer` lets lines go out as the work goes on, and nothing after a write that failed. It
+//! stands on plain data of the layers below and on `vd_outside` (`Text`, `Sink`).
+#![tactic(auto)]
+
+mod finding;
+mod journal;
+mod printer;
+mod status;
+mod words;
+
+pub use finding::{Verified, finding_line, verified_line};
+pub use journal::{damaged_line, journal_fault_line, journal_line, mismatch_line, no_journal_line};
+pub use printer::Printer;
+pub use status::{Status, status_line};
+pub use words::{
+    cannot_open_line, cannot_read_line, form_not_built_line, no_memory_line, usage_line,
+};

@@ -1,0 +1,4 @@
+pub mod Differences
+pub mod Parts
+pub mod Images
+pub mod Sectors

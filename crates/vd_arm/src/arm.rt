@@ -1,0 +1,37 @@
+// The right to one block, and one worker's way to a device.
+ghost use Rattle.std.specs.Prelude.{◌≡◌, List, ℕ, Some, OnOk, length};
+ghost use Rattle.vd_outside.specs.Causes.{HasCause, StaysSure};
+ghost use Rattle.vd_arm.specs.Arm.{PassSeen, ArmSeen, Reads};
+
+use vd_base::BlockNo;
+use vd_outside::Failed;
+
+/// The right to one block of a store. There is one pass for each block, made when the store is opened.
+pub trait Pass: Drop + Send + Sync {
+    /// All that contracts see of it: its block, its size in bytes, and the bytes that the block holds, where it tells.
+    ghost seen: { Self → PassSeen };
+
+    /// The block's number in its store.
+    fn block(&self) -> BlockNo
+        ensures { result.0 ≡ (seen self.now).block };
+
+    /// What it tells is as many bytes as its size.
+    ghost as_many: { (pass : Self) (bytes : List ℕ) → (seen pass).told ≡ Some bytes → length bytes ≡ (seen pass).size };
+}
+
+/// One worker's way to a device.
+pub trait Arm: Drop + Send {
+    type Pass: Pass;
+
+    /// All that contracts see of it: how often a call failed, how many blocks were read and written well (modulo 2^64), and whether
+    /// it tells that no call fails.
+    ghost seen: { Self → ArmSeen };
+
+    /// The bytes of one block. A failed read leaves `out` unsaid.
+    fn read(&mut self, pass: &Self::Pass, out: &mut [u8]) -> Result<(), Failed>
+        requires { length out.old ≡ (Self.Pass.seen pass.now).size }
+        ensures gives { (bytes : List ℕ) → (Self.Pass.seen pass.now).told ≡ Some bytes → OnOk result (out.new ≡ bytes) }
+        ensures cause { HasCause (seen self.old).faults (seen self.new).faults result }
+        ensures counts { Reads 1 (seen self.old) (seen self.new) result }
+        ensures sure { StaysSure (seen self.old).sure (seen self.new).sure (seen self.old).faults (seen self.new).faults };
+}

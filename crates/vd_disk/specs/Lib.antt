@@ -1,0 +1,5 @@
+pub mod Disk
+pub mod Calls
+pub mod Step
+pub mod Tale
+pub mod MemDisk

@@ -1,0 +1,9 @@
+pub mod Openings
+pub mod Entries
+pub mod Passes
+pub mod Fronts
+pub mod Fills
+pub mod HeldBytes
+pub mod Came
+pub mod Seen
+pub mod Opened

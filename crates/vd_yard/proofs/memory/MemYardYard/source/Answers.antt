@@ -1,0 +1,101 @@
+use Rattle.std.proofs.Common.{◌≡◌, rules, refl, sym, ap, ◌∙◌, None, List, ℕ}
+use Rattle.vd_yard.specs.Out.{AtSource, AtDisk, AtPasses}
+use Rattle.vd_yard.specs.Kept.{kept_at}
+use Rattle.vd_yard.specs.PathMap.{map_of}
+use Rattle.vd_yard.specs.Ledger.{ledger_out}
+use Rattle.vd_yard.proofs.Came.{still_willing, never_refused}
+use Rattle.vd_yard.proofs.Opened.{opened_other, source_not_there}
+use Rattle.vd_yard.proofs.memory.MemYardYard.source.Goals as goal
+
+pub returns-then-is_next_refused-clause-opens : goal.returns-then-is_next_refused-clause-opens
+returns-then-is_next_refused-clause-opens c = record {
+  later = search rules;
+  failed = search rules;
+  kept = search rules;
+  taken = search rules;
+  not_taken = search rules;
+  counts = search rules;
+  tells = search rules;
+  willing = still_willing _ _ _ c.is_next_refused.ensures.counted;
+  files = λ kind path there. there;
+  disks = search rules;
+  contents = search rules;
+}
+
+pub returns-then-is_next_refused-clause-willing : goal.returns-then-is_next_refused-clause-willing
+returns-then-is_next_refused-clause-willing c = λ willing there failed. never_refused c.args.path.now c.args.self.now.refusals c.is_next_refused.result c.is_next_refused.ensures.answer c.if-is_next_refused.true willing
+
+pub returns-in_default-clause-opens : goal.returns-in_default-clause-opens
+returns-in_default-clause-opens c = record {
+  later = search rules;
+  failed = search rules;
+  kept = search rules;
+  taken = search rules;
+  not_taken = search rules;
+  counts = search rules;
+  tells = search rules;
+  willing = still_willing _ _ _ c.is_next_refused.ensures.counted;
+  files = λ kind path there. there;
+  disks = search rules;
+  contents = search rules;
+}
+
+pub returns-in_default-clause-willing : goal.returns-in_default-clause-willing
+returns-in_default-clause-willing c = λ willing there failed.
+    let d = c.args.self.now in
+    let none : kept_at (map_of d.files) c.args.path.now ≡ None =
+    ap (λ (q : List ℕ). kept_at (map_of d.files) q) (sym c.as_bytes.ensures) ∙ c.in_default.ensures in
+    source_not_there (map_of d.files) (map_of d.disks) (map_of d.contents) c.args.path.now none there
+
+pub returns-in_default-open-clause-opens : goal.returns-in_default-open-clause-opens
+returns-in_default-open-clause-opens c = record {
+  later = search rules;
+  failed = search rules;
+  kept = search rules;
+  taken = search rules;
+  not_taken = search rules;
+  counts = search rules;
+  tells = search rules;
+  willing = still_willing _ _ _ c.is_next_refused.ensures.counted;
+  files = λ kind path there. there;
+  disks = search rules;
+  contents = search rules;
+}
+
+pub invariant_of-self-2 : goal.invariant_of-self-2
+invariant_of-self-2 c =
+    let d = c.args.self.now in
+    record {
+      disks_there = opened_other AtDisk AtSource c.args.path.now (ledger_out d.ledger) (ledger_out c.open-2.new.self) (map_of d.disks) c.open-2.result c.open-2.ensures.out c.open-2.ensures.err refl d.disks_there;
+      contents_there = opened_other AtPasses AtSource c.args.path.now (ledger_out d.ledger) (ledger_out c.open-2.new.self) (map_of d.contents) c.open-2.result c.open-2.ensures.out c.open-2.ensures.err refl d.contents_there;
+    }
+
+pub returns-in-Ok-open-clause-opens : goal.returns-in-Ok-open-clause-opens
+returns-in-Ok-open-clause-opens c = record {
+  later = search rules;
+  failed = search rules;
+  kept = search rules;
+  taken = search rules;
+  not_taken = search rules;
+  counts = search rules;
+  tells = search rules;
+  willing = still_willing _ _ _ c.is_next_refused.ensures.counted;
+  files = λ kind path there. there;
+  disks = search rules;
+  contents = search rules;
+}
+
+pub returns-in-Err-clause-opens : goal.returns-in-Err-clause-opens
+returns-in-Err-clause-opens c = record {
+  later = search rules;
+  failed = search rules;
+  kept = search rules;
+  taken = search rules;
+  not_taken = search rules;
+  counts = search rules;
+  tells = search rules;
+  willing = still_willing _ _ _ c.is_next_refused.ensures.counted;
+  files = λ kind path there. there;
+  disks = search rules;
+  contents = search rules;
+}

@@ -1,0 +1,16 @@
+pub mod Out
+pub mod Counts
+pub mod Kept
+pub mod Contents
+pub mod Yard
+pub mod Ledger
+pub mod PathMap
+pub mod Blocks
+pub mod HostYard
+pub mod Refusals
+pub mod Held
+pub mod There
+pub mod ArmPlan
+pub mod SourceFile
+pub mod MemYard
+pub mod Puts

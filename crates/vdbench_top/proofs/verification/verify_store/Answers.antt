@@ -1,0 +1,47 @@
+use Rattle.std.proofs.Common.{◌≡◌, ◌∙◌, sym, ap, map, subst, IsTrue, Result, Ok, Err}
+use Rattle.vd_yard.specs.Yard.{Tells}
+use Rattle.std.specs.Prelude.{OnErr}
+use Rattle.run_report.specs.Says.{says_none}
+use Rattle.vdbench_top.specs.Verification.{not_begun, begun}
+use Rattle.vdbench_top.proofs.Contents.{blocks_stay}
+use Rattle.vdbench_top.proofs.verification.verify_store.Goals as goal
+
+on_err : {T E P Q : Type 0} (r : Result T E) → (P → Q) → OnErr r P → OnErr r Q
+on_err (Ok v) f p = tt
+on_err (Err e) f p = f p
+
+pub returns-in-Err-Failed-clause-front : goal.returns-in-Err-Failed-clause-front
+returns-in-Err-Failed-clause-front g c = not_begun (says_none _)
+
+pub returns-in-Err-NoMemory-clause-front : goal.returns-in-Err-NoMemory-clause-front
+returns-in-Err-NoMemory-clause-front g c = not_begun (says_none _)
+
+pub returns-in-Failed-clause-front : goal.returns-in-Failed-clause-front
+returns-in-Failed-clause-front g c = not_begun (says_none _)
+
+pub returns-in-NoMemory-clause-front : goal.returns-in-NoMemory-clause-front
+returns-in-NoMemory-clause-front g c = not_begun (says_none _)
+
+told_before : (a b : Tells) → a ≡ b → IsTrue a.keeps_contents → IsTrue b.keeps_contents
+told_before a b e t = subst (λ (s : Tells). IsTrue s.keeps_contents) e t
+
+pub returns-in-Ok-arm-clause-blocks : goal.returns-in-Ok-arm-clause-blocks
+returns-in-Ok-arm-clause-blocks g c =
+    blocks_stay c.args.store.now _ _ _ _ _ (c.keep_arm.ensures.contents ∙ (c.arm.ensures.opens.contents ∙ c.passes.ensures.opens.contents)) c.keep_passes.ensures.contents c.in-Ok.ensures.blocks
+    (λ t. c.in-Ok.ensures.told (told_before _ _ (c.keep_arm.ensures.back.tells ∙ (c.arm.ensures.opens.tells ∙ c.passes.ensures.opens.tells)) t))
+
+pub returns-in-Ok-arm-clause-front : goal.returns-in-Ok-arm-clause-front
+returns-in-Ok-arm-clause-front g c =
+    on_err c.verify_through-answer.result
+    (λ p. begun p.0 (map g.Y.Arm.Pass.Pass.seen c.as_slice.result.now) p.1 (rw c.as_slice.ensures.value (record { blocks = c.in-Ok.ensures.blocks; told = c.in-Ok.ensures.told })) p.2 p.3)
+    c.verify_through-answer.ensures.front
+
+pub returns-in-Failed-clause-blocks : goal.returns-in-Failed-clause-blocks
+returns-in-Failed-clause-blocks g c =
+    blocks_stay c.args.store.now _ _ _ _ _ (c.arm.ensures.opens.contents ∙ c.passes.ensures.opens.contents) c.keep_passes-in-Err.ensures.contents c.in-Ok.ensures.blocks
+    (λ t. c.in-Ok.ensures.told (told_before _ _ (c.arm.ensures.opens.tells ∙ c.passes.ensures.opens.tells) t))
+
+pub returns-in-NoMemory-clause-blocks : goal.returns-in-NoMemory-clause-blocks
+returns-in-NoMemory-clause-blocks g c =
+    blocks_stay c.args.store.now _ _ _ _ _ (c.arm.ensures.opens.contents ∙ c.passes.ensures.opens.contents) c.keep_passes-in-Err.ensures.contents c.in-Ok.ensures.blocks
+    (λ t. c.in-Ok.ensures.told (told_before _ _ (c.arm.ensures.opens.tells ∙ c.passes.ensures.opens.tells) t))

@@ -1,0 +1,73 @@
+-- What verifying a store prints, and what it counts.
+use Rattle.std.specs.Prelude.{◌≡◌, ℕ, ◌+◌, ◌-◌, ◌^◌, ◌≤◌, ◌==◌, min, Bool, true, false, IsTrue, List, [], ◌++◌, map, take, count_by, if◌then◌else◌}
+use Rattle.std.specs.List.{concat}
+use Rattle.vd_base.specs.declared.geometry.StoreId.{StoreId}
+use Rattle.vd_arm.specs.Arm.{PassSeen}
+use Rattle.key_state.specs.declared.entry.Entry.{Entry}
+use Rattle.key_state.specs.declared.entry.Entry.TheVariants as entry
+use Rattle.block_verdict.specs.declared.finding.Finding.{Finding}
+use Rattle.recover_run.specs.declared.look.Look.{Look}
+use Rattle.recover_run.specs.Looks.{AreLooks, findings_from, is_seen, is_unread, is_corrupt}
+use Rattle.plan_types.specs.declared.store.StorePlan.{StorePlan}
+use Rattle.run_report.specs.declared.finding.Verified.{Verified}
+use Rattle.run_report.specs.declared.status.Status.{Status}
+use Rattle.run_report.specs.declared.status.Status.TheVariants as status
+use Rattle.run_report.specs.Findings.{finding_text, verified_text}
+use Rattle.run_report.specs.Says.{Printing, Says}
+use Rattle.vd_yard.specs.Counts.{arm_faults}
+use Rattle.vd_yard.specs.Kept.{bytes_at}
+use Rattle.vd_yard.specs.Contents.{AreBlocks, TellFile}
+use Rattle.vd_yard.specs.Yard.{YardSeen}
+
+-- the lines of findings, one behind the other
+abbrev pub findings_text : StoreId → List Finding → List ℕ
+findings_text id findings = concat (map (finding_text id) findings)
+
+abbrev pub is_pending : Entry → Bool
+is_pending (entry.Settled key) = false
+is_pending (entry.Pending old new) = true
+is_pending entry.Bad = false
+
+abbrev pub is_bad : Entry → Bool
+is_bad (entry.Settled key) = false
+is_bad (entry.Pending old new) = false
+is_bad entry.Bad = true
+
+-- what a verification counts, by the entries that were recovered and what was seen of each block
+unfoldable pub counted_of : List Entry → List Look → Verified
+counted_of entries looks = record {
+  blocks = count_by is_seen looks;
+  corrupt = count_by is_corrupt looks;
+  pending = count_by is_pending entries;
+  bad = count_by is_bad entries;
+  faults = count_by is_unread looks;
+}
+
+-- the lines of a store's findings, in rising block order
+abbrev pub lines_of : StoreId → List Entry → List Look → List ℕ
+lines_of id entries looks = findings_text id (findings_from 0 entries looks)
+
+-- all lines of a store's verification
+abbrev pub store_text : StoreId → List Entry → List Look → List ℕ
+store_text id entries looks = lines_of id entries looks ++ verified_text id.name (counted_of entries looks)
+
+-- the status of a verification: a failed read comes before a corrupt block
+abbrev pub counted_status : Verified → Status
+counted_status counted = if counted.faults == 0 then (if counted.corrupt == 0 then status.Good else status.Corrupt) else status.Device
+
+-- These passes are those of the store's blocks: each tells its block of what the yard keeps, where it tells that.
+pub record ArePassesOf (old : YardSeen) (store : StorePlan) (passes : List PassSeen) : Type 0 where
+  pub blocks : AreBlocks store.id.geometry passes
+  pub told : IsTrue old.tells.keeps_contents → TellFile store.id.geometry (bytes_at old.contents store.path) passes
+
+-- The path's arm faults rose by at least so many, and only where there is one.
+pub record FaultsRose (old new : YardSeen) (path : List ℕ) (unread : ℕ) : Type 0 where
+  pub rose : min (arm_faults old.counts path + unread) (2 ^ 64 - 1) ≤ arm_faults new.counts path
+  pub kept : unread ≡ 0 → arm_faults new.counts path ≡ arm_faults old.counts path
+
+-- How far a verification came that ended early: the lines of the first blocks were said, or none was begun.
+pub data CameSoFar (old : YardSeen) (store : StorePlan) (entries : List Entry) (before now : Printing) : Type 0 where
+  not_begun : Says before now [] → CameSoFar old store entries before now
+  begun : (n : ℕ) (passes : List PassSeen) (looks : List Look) → ArePassesOf old store passes
+      → AreLooks store.id (take n entries) (take n passes) looks
+      → Says before now (lines_of store.id (take n entries) looks) → CameSoFar old store entries before now

@@ -1,0 +1,18 @@
+// What a command is to do.
+
+/// What a command does.
+#[derive(Clone, Copy, Debug, PartialEq, Eq, Drop)]
+pub enum Mode {
+    /// Recovers each journal, verifies each store, and changes nothing: `-jro`.
+    RecoverOnly,
+}
+
+/// A command.
+#[derive(Clone, Copy, Debug, PartialEq, Eq, Drop)]
+pub struct Command {
+    pub mode: Mode,
+    /// Whether each block is read again after it was written.
+    pub reread: bool,
+    /// The place of the word that names the parameter file.
+    pub file: Option<u32>,
+}

@@ -1,0 +1,343 @@
+#!/usr/bin/env python3
+"""Runs a built program over generated cases and compares its text and status with formats.py.
+
+    fuzz.py PROGRAM [--cases N] [--seed S] [--keep FOLDER]
+
+Each case has a parameter file, a journal and a data file in a folder of its own. The journal is sound, or damaged in one or two places;
+afterwards it must be as it was, and so must the data file, but for zeros up to the store's length. A case that fails is printed with
+its number, and with --keep its files are left in FOLDER.
+"""
+
+import argparse
+import random
+import shutil
+import signal
+import subprocess
+import sys
+import tempfile
+from pathlib import Path
+
+import formats as f
+
+LETTERS = "abcdefghijklmnopqrstuvwxyzABCDEFGHIJKLMNOPQRSTUVWXYZ0123456789_"
+PATH_LETTERS = LETTERS + "!#$%&'*+-.:;<=>?@[\\]^`{|}~"
+
+
+class Case:
+    """One case: the words, the files, and what is wanted."""
+
+    def __init__(self, words, parameter_bytes, disk, data, openable=True):
+        self.words = words
+        self.parameters = parameter_bytes
+        self.disk = disk
+        self.data = data
+        self.openable = openable
+
+    def wanted(self):
+        if len(self.words) != 3 or self.words[:2] != ["-jro", "-f"] or self.words[2] in ("",) or self.words[2][0] == "-":
+            return f.finish(f.USAGE, 4)
+        if self.parameters is None:
+            return f.finish(f"cannot open {self.words[2]}\n", 12)
+        data = (self.data or b"") if self.openable else None
+        return f.report(self.parameters, self.disk, data)
+
+
+# ---- random parts
+
+def random_name(rng):
+    return "".join(rng.choice(LETTERS) for _ in range(rng.randint(1, 8)))
+
+
+def random_path(rng):
+    first = rng.choice(LETTERS)
+    return first + "".join(rng.choice(PATH_LETTERS) for _ in range(rng.choice([0, 3, 12, 200]))) + ".d"
+
+
+def random_key(rng, least=0):
+    return rng.choice([least, 1, 2, 125, 126, rng.randint(1, 126)])
+
+
+def random_entry(rng):
+    kind = rng.random()
+    if kind < 0.35:
+        return ("settled", 0)
+    if kind < 0.75:
+        return ("settled", random_key(rng))
+    if kind < 0.95:
+        key = random_key(rng)
+        return ("pending", key, f.next_key(key))
+    return ("bad",)
+
+
+def random_records(rng, version, entries, many):
+    """Records that are legal one after the other, and the entries after them."""
+    entries = list(entries)
+    records = []
+    for _ in range(20 * many):
+        if len(records) == many:
+            break
+        kind = rng.choice(["begin", "end"] * 6 + ["bad"] + (["beginrun", "endrun"] * 3 + ["clear"] if version == 2 else []))
+        block = rng.randrange(len(entries))
+        entry = entries[block]
+        if kind == "begin":
+            made = ("begin", block, entry[1] if entry[0] == "settled" else 0, f.next_key(entry[1]) if entry[0] == "settled" else 1)
+        elif kind == "end":
+            made = ("end", block, entry[2] if entry[0] == "pending" else 1)
+        elif kind == "bad":
+            made = ("bad", block)
+        else:
+            least = 1 if kind == "clear" else 2
+            room = min(64, len(entries) - block)
+            if room < least:
+                continue
+            made = (kind, block, rng.randint(least, min(room, rng.choice([2, 3, 64]))) if room > least else least)
+        after = [f.step(entries[b], made) for b in f.blocks_of(made)]
+        if None in after:
+            continue
+        for b, changed in zip(f.blocks_of(made), after):
+            entries[b] = changed
+        records.append(made)
+    return records, entries
+
+
+def random_journal(rng, name, blocks):
+    """A sound journal, and what is in it: (bytes, layout)."""
+    version = rng.choice([1, 2])
+    epoch = rng.choice([0, 1, 2, 7, 1000, 2 ** 63 - 1, 2 ** 62])
+    logs = rng.choice([1, 2, 3, 8])
+    entries = [random_entry(rng) for _ in range(blocks)]
+    many = rng.choice([0, 1, 5, 29, 30, 31, 60, 30 * logs])
+    records, now = random_records(rng, version, entries, min(many, 30 * logs))
+    disk = bytearray(f.journal(version, epoch, name, entries, logs, records))
+    if epoch > 0 and rng.random() < 0.6:
+        other = f.journal(rng.choice([1, 2]), epoch - 1, name, [("settled", 1)] * blocks, logs, [])
+        area = 1 - epoch % 2
+        disk[area * 512:area * 512 + 512] = other[area * 512:area * 512 + 512]
+    if len(records) < 30 * (logs - 1) and rng.random() < 0.5:
+        at = f.log_at(epoch % 2, logs - 1, blocks, logs) * 512
+        disk[at:at + 512] = f.log_sector(version, epoch, logs - 1, [("bad", 0)])
+    return disk, (version, epoch, logs, records), now
+
+
+def damage(rng, disk, blocks, layout):
+    """One change, often at a place that matters."""
+    version, epoch, logs, records = layout
+    area = epoch % 2
+
+    def put(at, data):
+        if at + len(data) <= len(disk):
+            disk[at:at + len(data)] = data
+
+    log = f.log_at(area, rng.randrange(max(1, -(-len(records) // 30))), blocks, logs) * 512
+    place = log + 32 + 16 * rng.randrange(30)
+    kind = rng.randrange(13)
+    if kind == 0:
+        put(rng.randrange(max(1, len(disk))), bytes([rng.randrange(256)]))
+    elif kind == 1:
+        del disk[rng.choice([0, 511, 512, 513, 1024, max(0, len(disk) - 1), rng.randrange(len(disk) + 1)]):]
+    elif kind == 2:
+        put(rng.choice([0, 512]) + rng.randrange(40), bytes([rng.choice([0, 1, 2, 127, 128, 255])]))
+    elif kind == 3:
+        block = rng.randrange(blocks + 3)
+        pair = rng.choice([(1, 3), (126, 2), (127, 0), (0, 254), (0, 255), (255, 255), (126, 1), (0, 2), (127, 1)])
+        put(f.map_at(area, 0, blocks, logs) * 512 + 2 * block, bytes(pair))
+    elif kind == 4:
+        put(log + 20, rng.choice([0, 1, 29, 30, 31, 256, 65535]).to_bytes(2, "big"))
+    elif kind == 5:
+        put(log + 22 + rng.randrange(10), bytes([rng.choice([0, 1, 255])]))
+    elif kind == 6:
+        put(log + rng.randrange(20), bytes([rng.choice([0, 1, 0x31, 0x32, 255])]))
+    elif kind == 7:
+        put(place + rng.choice([0, 1, 2, 3, 7, 8, 15]), bytes([rng.choice([0, 1, 2, 3, 4, 5, 6, 7, 64, 65, 126, 127, 255])]))
+    elif kind == 8:
+        many = rng.choice([0, 1, 2, 3, 64, 65, 255])
+        first = rng.choice([0, 1, max(0, blocks - 2), max(0, blocks - 1), blocks, 2 ** 32 - 1])
+        put(place, bytes([rng.choice([4, 5, 6]), 0, 0, many]) + first.to_bytes(4, "big") + bytes(8))
+    elif kind == 9:
+        made = ("begin", rng.choice([0, blocks - 1, blocks]), 0, 1)
+        put(place, f.record_bytes(made))
+    elif kind == 10:
+        one, two = (rng.randrange(len(disk) // 512 + 1) * 512 for _ in range(2))
+        put(one, bytes(disk[two:two + 512]))
+    elif kind == 11:
+        put(rng.choice([0, 512]), bytes(512))
+    else:
+        put(log + rng.randrange(512), bytes([rng.randrange(256)]))
+
+
+def random_data(rng, name, entries):
+    """A data file that mostly holds what the entries permit."""
+    parts = []
+    for block, entry in enumerate(entries):
+        keys = entry[1:] or (rng.choice([0, 1]),)
+        at = block * f.BLOCK
+        choice = rng.random()
+        if choice < 0.7 or len(keys) == 1:
+            key = rng.choice(keys)
+            part = bytearray(f.block_image(name, block, key) if key else bytes([rng.choice([0, 170])]) * f.BLOCK)
+        else:
+            part = bytearray(b"".join(f.image(name, at + s * 512, rng.choice(keys) or 1) for s in range(8)))
+        if rng.random() < 0.25:
+            sector = rng.randrange(8)
+            where = sector * 512
+            wrong = rng.randrange(5)
+            if wrong == 0:
+                part[where + rng.choice([0, 7, 8, 16, 17, 18, 20, 27, 28, 31, 32, 511, rng.randrange(512)])] ^= rng.randint(1, 255)
+            elif wrong == 1:
+                part[where:where + 512] = f.image(name, at + where, random_key(rng, 1))
+            elif wrong == 2:
+                part[where:where + 512] = f.image(random_name(rng), at + where, max(keys[-1], 1))
+            elif wrong == 3:
+                part[where:where + 512] = f.image(name, at + where + 512, max(keys[-1], 1))
+            else:
+                part[where:where + 512] = bytes(512)
+        parts.append(bytes(part))
+    return b"".join(parts)
+
+
+def random_parameters(rng, name, path, kib):
+    """A parameter file, mostly of the form."""
+    given = f.parameters(name, path, kib)
+    if rng.random() < 0.85:
+        return given
+    kind = rng.randrange(6)
+    if kind == 0:
+        at = rng.randrange(len(given))
+        return given[:at] + bytes([rng.randrange(256)]) + given[at + 1:]
+    if kind == 1:
+        return given[:rng.randrange(len(given))]
+    if kind == 2:
+        return given + rng.choice([b"\n", b"#", b"rd=rd1,wd=wd1\n"])
+    if kind == 3:
+        return given.replace(b"size=", b"size=" + rng.choice([b"0", b"+", b" ", b"9999999999999999999999", b"1000"]))
+    if kind == 4:
+        return given.replace(b"lun=", b"lun=" + rng.choice([b"(", b'"', b"a,", b" ", b"\x7f", b"\xc3\xa9"]))
+    return rng.choice([b"", b"\n", b"sd=", b"sd=sd1,lun=,size=64k\n", given.replace(b"\n", b"\r\n"), given * 9])
+
+
+def random_case(rng):
+    name, path = random_name(rng), random_path(rng)
+    blocks = rng.choice([1, 2, 3, 16, 40, rng.randint(1, 70), rng.choice([255, 256, 257, 600])])
+    kib = 4 * blocks + rng.randrange(4)
+    disk, layout, entries = random_journal(rng, name, blocks)
+    if rng.random() < 0.06:
+        disk = bytearray(f.journal(1, 0, rng.choice([name, random_name(rng)]), [("settled", 0)] * rng.choice([blocks, blocks + 1]), 1, []))
+    for _ in range(rng.choice([0, 0, 0, 1, 1, 2])):
+        damage(rng, disk, blocks, layout)
+    data = random_data(rng, name, entries)
+    cut = rng.random()
+    if cut < 0.1:
+        data = data[:rng.randrange(len(data) + 1)]
+    elif cut < 0.15:
+        data = None
+    elif cut < 0.2:
+        data += b"more"
+    words = ["-jro", "-f", "parm"]
+    if rng.random() < 0.05:
+        words = rng.choice([[], ["-jro"], ["-jro", "-f"], ["-f", "parm"], ["-f", "parm", "-jro"], ["-jro", "-f", "-x"],
+                            ["-jro", "-f", ""], ["-jro", "-f", "parm", "parm"], ["-jr", "-f", "parm"], ["-jro", "-fparm", "x"],
+                            ["--help"], ["--version"], ["-sim", "1000001"]])
+    case = Case(words, random_parameters(rng, name, path, kib), None if rng.random() < 0.03 else bytes(disk), data)
+    form = f.read_form(case.parameters)
+    if form is not None and form[1] != path:
+        case.data = None
+        case.openable = "/" not in form[1] and len(form[1]) <= 255
+    return case
+
+
+def fixed_cases():
+    """Cases that chance is slow to find."""
+    rng = random.Random(1)
+    given = f.parameters("s", "nowhere/data", 8)
+    disk = f.journal(1, 0, "s", [("settled", 1)] * 2, 1, [])
+    yield Case(["-jro", "-f", "parm"], given, disk, None, openable=False)
+    yield Case(["-jro", "-f", "parm"], f.parameters("s", "x" * 256, 8), disk, None, openable=False)
+    yield Case(["-jro", "-f", "absent"], None, disk, None)
+    yield Case(["-jro", "-f", "parm"], f.parameters("s", "s.jnl", 8), disk, None)
+    yield Case(["-jro", "-f", "parm"], f.parameters("s", "d", 3), disk, None)
+    for blocks in (249999, 250000):
+        entries = [("settled", 0)] * blocks
+        entries[0], entries[-1] = ("settled", 9), ("pending", 4, 5)
+        disk, data = f.journal(2, 3, "big", entries, 2, []), f.block_image("big", 0, 9)
+        yield Case(["-jro", "-f", "parm"], f.parameters("big", "d", 4 * blocks), disk, data)
+    yield Case(["-jro", "-f", "parm"], f.parameters("s", "d", 8).ljust(1048577, b"\n"), disk, None)
+    for kib in (4, 5, 7):
+        disk = f.journal(2, 2 ** 63 - 1, "A_9", [("pending", 126, 1)], 1, [("end", 0, 1)])
+        yield Case(["-jro", "-f", "parm"], f.parameters("A_9", "d", kib), disk, f.block_image("A_9", 0, 1))
+    yield random_case(rng)
+
+
+# ---- running
+
+def run_case(program, case, folder):
+    """What is wrong with a case, or None."""
+    form = None if case.parameters is None else f.read_form(case.parameters)
+    journal = folder / ((form[0] if form else "sd1") + ".jnl")
+    data = folder / form[1] if form and case.openable else None
+    if case.parameters is not None:
+        (folder / "parm").write_bytes(case.parameters)
+    if case.disk is not None:
+        journal.write_bytes(case.disk)
+    if data is not None and case.data is not None:
+        data.write_bytes(case.data)
+    text, status = case.wanted()
+    done = subprocess.run([program, *case.words], cwd=folder, stdin=subprocess.DEVNULL, capture_output=True, timeout=120)
+    if done.stdout != text.encode():
+        return f"printed {done.stdout[:600]!r}\n  wanted  {text.encode()[:600]!r}"
+    if done.returncode != status:
+        return f"status {done.returncode}, wanted {status}"
+    if done.stderr:
+        return f"standard error has {done.stderr[:200]!r}"
+    if case.disk is not None and journal.read_bytes() != case.disk:
+        return "the journal was changed"
+    if data is None:
+        return None
+    opened = text.startswith("journal ") and "cannot open" not in text
+    if not opened:
+        same = not data.exists() if case.data is None else data.read_bytes() == case.data
+        return None if same else "a data file was touched that isn't to be opened"
+    return None if holds(data, case.data or b"", form[2] * f.BLOCK) else "the data file is not the one that was there, with zeros behind it"
+
+
+def holds(path, before, least):
+    """Whether a file has these bytes, and zeros up to the store's length."""
+    if path.stat().st_size != max(len(before), least):
+        return False
+    with path.open("rb") as file:
+        if file.read(len(before)) != before:
+            return False
+        return least > 2 ** 26 or not any(file.read())
+
+
+def main():
+    parser = argparse.ArgumentParser()
+    parser.add_argument("program")
+    parser.add_argument("--cases", type=int, default=400)
+    parser.add_argument("--seed", type=int, default=1)
+    parser.add_argument("--keep", type=Path)
+    options = parser.parse_args()
+    signal.signal(signal.SIGTERM, lambda number, frame: sys.exit("fuzz: stopped"))
+    program = str(Path(options.program).resolve())
+    numbered = [("fixed", i, c) for i, c in enumerate(fixed_cases())]
+    numbered += [("case", i, random_case(random.Random(f"{options.seed} {i}"))) for i in range(options.cases)]
+    wrong = 0
+    seen = {}
+    for kind, i, case in numbered:
+        seen[case.wanted()[1]] = seen.get(case.wanted()[1], 0) + 1
+        folder = Path(tempfile.mkdtemp(prefix="vdbench-fuzz-"))
+        try:
+            why = run_case(program, case, folder)
+            if why is not None:
+                wrong += 1
+                print(f"{kind} {i} (seed {options.seed}), words {case.words}: {why}")
+                if options.keep is not None:
+                    shutil.copytree(folder, options.keep / f"{kind}-{i}", dirs_exist_ok=True)
+        finally:
+            shutil.rmtree(folder, ignore_errors=True)
+    counts = ", ".join(f"{many} of status {status}" for status, many in sorted(seen.items()))
+    print(f"fuzz: {len(numbered)} cases ({counts}), {wrong} differ")
+    return 1 if wrong else 0
+
+
+if __name__ == "__main__":
+    sys.exit(main())

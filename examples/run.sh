@@ -1,0 +1,38 @@
+#!/bin/bash
+# Runs the built program over each example, in a copy of its folder, and compares what it prints and its status.
+#   examples/run.sh [PROGRAM] [NAME..]     NAME is a folder of examples/; none: all of them
+set -u
+here=$(cd "$(dirname "$0")" && pwd)
+program=${1:-$here/../crates/vdbench/out/vdbench}
+[ $# -gt 0 ] && shift
+if [ ! -x "$program" ]; then
+    echo "examples: skipped, there is no program $program"
+    exit 0
+fi
+program=$(realpath "$program")
+names=("$@")
+if [ ${#names[@]} -eq 0 ]; then
+    mapfile -t names < <(cd "$here" && find . -name parm -printf '%h\n' | sed 's|^\./||' | sort)
+fi
+work=$(mktemp -d) || exit 1
+trap 'rm -rf "$work"' EXIT
+wrong=0
+for name in "${names[@]}"; do
+    rm -rf "$work/case" && cp -r "$here/$name" "$work/case" || exit 1
+    rm -f "$work/case/stdout" "$work/case/status"
+    (cd "$work/case" && "$program" -jro -f parm </dev/null >"$work/stdout" 2>"$work/stderr")
+    status=$?
+    if ! diff -u "$here/$name/stdout" "$work/stdout"; then
+        echo "examples/$name: the text differs"
+        wrong=$((wrong + 1))
+    elif [ "$status" != "$(cat "$here/$name/status")" ] || [ -s "$work/stderr" ]; then
+        echo "examples/$name: status $status, wanted $(cat "$here/$name/status")"
+        cat "$work/stderr"
+        wrong=$((wrong + 1))
+    elif ! diff -rq -x stdout -x status "$here/$name" "$work/case"; then
+        echo "examples/$name: a file was changed"
+        wrong=$((wrong + 1))
+    fi
+done
+echo "examples: ${#names[@]} run, $wrong differ"
+[ "$wrong" -eq 0 ]
