@@ -10,6 +10,7 @@ its number, and with --keep its files are left in FOLDER.
 
 import argparse
 import random
+import resource
 import shutil
 import signal
 import subprocess
@@ -128,9 +129,10 @@ def damage(rng, disk, blocks, layout):
         if at + len(data) <= len(disk):
             disk[at:at + len(data)] = data
 
-    log = f.log_at(area, rng.randrange(max(1, -(-len(records) // 30))), blocks, logs) * 512
-    place = log + 32 + 16 * rng.randrange(30)
-    kind = rng.randrange(13)
+    at = rng.randrange(len(records)) if records and rng.random() < 0.8 else 0
+    log = f.log_at(area, at // 30, blocks, logs) * 512
+    place = log + 32 + 16 * (at % 30 if rng.random() < 0.9 else rng.randrange(30))
+    kind = rng.randrange(14)
     if kind == 0:
         put(rng.randrange(max(1, len(disk))), bytes([rng.randrange(256)]))
     elif kind == 1:
@@ -138,8 +140,8 @@ def damage(rng, disk, blocks, layout):
     elif kind == 2:
         put(rng.choice([0, 512]) + rng.randrange(40), bytes([rng.choice([0, 1, 2, 127, 128, 255])]))
     elif kind == 3:
-        block = rng.randrange(blocks + 3)
-        pair = rng.choice([(1, 3), (126, 2), (127, 0), (0, 254), (0, 255), (255, 255), (126, 1), (0, 2), (127, 1)])
+        block = rng.choice([rng.randrange(blocks), blocks, blocks + 1, -(-blocks // 256) * 256 - 1])
+        pair = rng.choice([(1, 0), (1, 0), (1, 3), (126, 2), (127, 0), (0, 254), (0, 255), (255, 255), (126, 1), (0, 2), (127, 1)])
         put(f.map_at(area, 0, blocks, logs) * 512 + 2 * block, bytes(pair))
     elif kind == 4:
         put(log + 20, rng.choice([0, 1, 29, 30, 31, 256, 65535]).to_bytes(2, "big"))
@@ -150,8 +152,8 @@ def damage(rng, disk, blocks, layout):
     elif kind == 7:
         put(place + rng.choice([0, 1, 2, 3, 7, 8, 15]), bytes([rng.choice([0, 1, 2, 3, 4, 5, 6, 7, 64, 65, 126, 127, 255])]))
     elif kind == 8:
-        many = rng.choice([0, 1, 2, 3, 64, 65, 255])
-        first = rng.choice([0, 1, max(0, blocks - 2), max(0, blocks - 1), blocks, 2 ** 32 - 1])
+        many = rng.choice([0, 1, 1, 2, 3, 64, 65, 255])
+        first = rng.choice([rng.randrange(blocks), rng.randrange(blocks), max(0, blocks - many), max(0, blocks - many + 1), blocks, 2 ** 32 - 1])
         put(place, bytes([rng.choice([4, 5, 6]), 0, 0, many]) + first.to_bytes(4, "big") + bytes(8))
     elif kind == 9:
         made = ("begin", rng.choice([0, blocks - 1, blocks]), 0, 1)
@@ -161,6 +163,8 @@ def damage(rng, disk, blocks, layout):
         put(one, bytes(disk[two:two + 512]))
     elif kind == 11:
         put(rng.choice([0, 512]), bytes(512))
+    elif kind == 12:
+        put(log + 32 + 16 * len(records[at - at % 30:][:30]) + rng.randrange(16), bytes([rng.choice([1, 255])]))
     else:
         put(log + rng.randrange(512), bytes([rng.randrange(256)]))
 
@@ -299,6 +303,53 @@ def run_case(program, case, folder):
     return None if holds(data, case.data or b"", form[2] * f.BLOCK) else "the data file is not the one that was there, with zeros behind it"
 
 
+def outside_cases(program):
+    """Folders where files should be, and outputs that take nothing: what differs, line by line."""
+    given = f.parameters("s", "d", 8)
+    disk = f.journal(1, 0, "s", [("settled", 0)] * 2, 1, [])
+    first = "journal s epoch 0 records 0\n"
+    for folder, (text, status) in {
+        "parm": f.finish("cannot read parm\n", 5),
+        "s.jnl": f.finish("cannot open s.jnl\n", 12),
+        "d": f.finish(first + "cannot open d\n", 12),
+    }.items():
+        with tempfile.TemporaryDirectory(prefix="vdbench-fuzz-") as place:
+            for name, data in (("parm", given), ("s.jnl", disk)):
+                if name != folder:
+                    Path(place, name).write_bytes(data)
+            Path(place, folder).mkdir()
+            done = subprocess.run([program, "-jro", "-f", "parm"], cwd=place, stdin=subprocess.DEVNULL, capture_output=True)
+            if (done.stdout, done.returncode) != (text.encode(), status):
+                yield f"a folder at {folder}: {done.stdout!r}, status {done.returncode}"
+    with tempfile.TemporaryDirectory(prefix="vdbench-fuzz-") as place, open("/dev/full", "wb") as full:
+        Path(place, "parm").write_bytes(given)
+        Path(place, "s.jnl").write_bytes(disk)
+        done = subprocess.run([program, "-jro", "-f", "parm"], cwd=place, stdin=subprocess.DEVNULL, stdout=full)
+        if done.returncode != 6:
+            yield f"an output that is full: status {done.returncode}"
+
+
+def memory_cases(program):
+    """A large store in little address space: the whole text, or a front of its lines and that memory ran out."""
+    blocks = 249999
+    entries = [("settled", 0)] * blocks
+    entries[0] = entries[5000] = ("settled", 1)
+    disk = f.journal(2, 1, "s", entries, 1, [])
+    given = f.parameters("s", "d", 4 * blocks)
+    text, status = f.report(given, disk, b"")
+    lines = text.splitlines(keepends=True)[:-2]
+    for mib in (4, 5, 6, 8, 64):
+        with tempfile.TemporaryDirectory(prefix="vdbench-fuzz-") as place:
+            Path(place, "parm").write_bytes(given)
+            Path(place, "s.jnl").write_bytes(disk)
+            done = subprocess.run([program, "-jro", "-f", "parm"], cwd=place, stdin=subprocess.DEVNULL, capture_output=True,
+                                  preexec_fn=lambda: resource.setrlimit(resource.RLIMIT_AS, (mib << 20, mib << 20)))
+            answer = (done.stdout.decode(), done.returncode)
+            fronts = [("".join(lines[:n]) + "no memory\nstatus 20\n", 20) for n in range(len(lines) + 1)]
+            if answer != (text, status) and (mib == 64 or answer not in fronts):
+                yield f"{mib} MiB of address space: {answer}"
+
+
 def holds(path, before, least):
     """Whether a file has these bytes, and zeros up to the store's length."""
     if path.stat().st_size != max(len(before), least):
@@ -334,6 +385,9 @@ def main():
                     shutil.copytree(folder, options.keep / f"{kind}-{i}", dirs_exist_ok=True)
         finally:
             shutil.rmtree(folder, ignore_errors=True)
+    for why in [*outside_cases(program), *memory_cases(program)]:
+        wrong += 1
+        print(why)
     counts = ", ".join(f"{many} of status {status}" for status, many in sorted(seen.items()))
     print(f"fuzz: {len(numbered)} cases ({counts}), {wrong} differ")
     return 1 if wrong else 0

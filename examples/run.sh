@@ -1,10 +1,16 @@
 #!/bin/bash
 # Runs the built program over each example, in a copy of its folder, and compares what it prints and its status.
 #   examples/run.sh [PROGRAM] [NAME..]     NAME is a folder of examples/; none: all of them
+# With no PROGRAM the repository's own is proved and built first, where something changed.
 set -u
 here=$(cd "$(dirname "$0")" && pwd)
-program=${1:-$here/../crates/vdbench/out/vdbench}
-[ $# -gt 0 ] && shift
+if [ $# -gt 0 ]; then
+    program=$1
+    shift
+else
+    program=$here/../crates/vdbench/out/vdbench
+    command -v rt >/dev/null && (cd "$here/../crates/vdbench" && rt run) </dev/null >/dev/null
+fi
 if [ ! -x "$program" ]; then
     echo "examples: skipped, there is no program $program"
     exit 0

@@ -28,7 +28,7 @@ mod tests {
     use super::*;
     use key_state::Entry;
     use std::test::Fail;
-    use vd_base::{BlockNo, Key};
+    use vd_base::{BlockNo, Key, next_key};
 
     /// One block of two sectors and two workers: a write waits for the sync of its beginning, and half a write is recovered.
     #[test]
@@ -58,6 +58,66 @@ mod tests {
         assert_eq!(rt; world.blocks(), 1);
         assert_eq!(rt; world.entry(block), Entry::Settled(Key::never()));
         assert_eq!(rt; (world.records(), world.synced()), (0, 0));
+        Ok(())
+    }
+
+    /// One worker and two blocks of one sector, written as one list; then one of them is cleared and marked as bad.
+    #[test]
+    fn a_list_of_two(rt: HostRuntime) -> Result<(), Fail> {
+        let mut world = World::new(rt.alloc(), 2, 1, 1)?;
+        let (first, last) = (BlockNo(0), BlockNo(1));
+        let claim = Event::Claim {
+            worker: 0,
+            block: first,
+        };
+        let claim_last = Event::Claim {
+            worker: 0,
+            block: last,
+        };
+        let write = Event::Write {
+            worker: 0,
+            block: first,
+            sector: 0,
+        };
+        let write_last = Event::Write {
+            worker: 0,
+            block: last,
+            sector: 0,
+        };
+        for (event, want, records) in [
+            (claim, true, 0),
+            (claim_last, true, 0),
+            (claim_last, false, 0),
+            (Event::Begin { worker: 0 }, true, 1),
+            (Event::Sync, true, 1),
+            (write, true, 1),
+            (Event::Ack { worker: 0 }, false, 1),
+            (write_last, true, 1),
+            (Event::Ack { worker: 0 }, true, 1),
+            (Event::End { worker: 0 }, true, 2),
+            (Event::Release { worker: 0 }, true, 2),
+            (Event::Release { worker: 0 }, true, 2),
+            (Event::Release { worker: 0 }, false, 2),
+            (claim, true, 2),
+            (Event::Clear { worker: 0 }, true, 3),
+            (
+                Event::Bad {
+                    worker: 0,
+                    block: first,
+                },
+                true,
+                4,
+            ),
+            (Event::Release { worker: 0 }, true, 4),
+            (claim, false, 4),
+            (Event::Turnover, true, 0),
+        ] {
+            let taken = world.step(&event)?;
+            assert_eq!(rt; (taken, world.records()), (want, records), "at {event:?}");
+        }
+        assert_eq!(rt; world.blocks(), 2);
+        assert_eq!(rt; world.entry(first), Entry::Bad);
+        assert_eq!(rt; world.entry(last), Entry::Settled(next_key(Key::never())));
         Ok(())
     }
 

@@ -1,5 +1,5 @@
 -- What one look more adds.
-use Rattle.std.proofs.Common.{◌≡◌, ℕ, zero, suc, ◌+◌, ◌-◌, ◌%◌, ◌^◌, ◌<◌, ◌≤◌, min, Bool, true, false, IsTrue, List, [], ◌∷◌, ◌++◌, length, take, map, get_or, refl, sym, ◌∙◌, ap, subst, arith, rules, append_assoc}
+use Rattle.std.proofs.Common.{◌≡◌, ℕ, suc, ◌+◌, ◌-◌, ◌%◌, ◌^◌, ◌<◌, ◌≤◌, min, Bool, List, [], ◌∷◌, ◌++◌, length, take, map, get_or, refl, sym, ◌∙◌, ap, subst, arith, rules, append_assoc}
 use Rattle.std.specs.Prelude.{count_by, Option, Some, slice_get, cond}
 use Rattle.std.specs.Option.{option_map}
 use Rattle.std.proofs.lemmas.Option.{slice_get-map, slice_get_read}
@@ -8,14 +8,12 @@ use Rattle.vd_base.specs.Geometry.{Shape}
 use Rattle.key_state.specs.declared.entry.Entry.TheVariants.{Bad}
 use Rattle.key_state.specs.Entries.{IsEntry, AreEntries}
 use Rattle.std.proofs.lemmas.List.{take_more, append-nil, get_or-map}
-use Rattle.std.proofs.lemmas.List.Sums.{sum_by-append, count_by-le-length}
-use Rattle.vd_base.specs.declared.geometry.BlockNo.{BlockNo}
+use Rattle.std.proofs.lemmas.List.Sums.{sum_by-append}
 use Rattle.vd_base.specs.declared.geometry.StoreId.{StoreId}
 use Rattle.key_state.specs.declared.entry.Entry.{Entry}
 use Rattle.block_verdict.specs.declared.finding.Finding.{Finding}
-use Rattle.vd_arm.specs.Arm.{PassSeen, ArmSeen, Counted}
+use Rattle.vd_arm.specs.Arm.{PassSeen, ArmSeen}
 use Rattle.recover_run.specs.declared.look.Look.{Look}
-use Rattle.recover_run.specs.declared.look.Look.TheVariants.{Skipped, Unread, Sees}
 use Rattle.recover_run.specs.Looks.{AreLooks, LooksAt, findings_from, block_findings, settled_from, settled_look, is_seen, is_unread}
 use Rattle.recover_run.specs.Part.{ArePart, Called, Verifies}
 

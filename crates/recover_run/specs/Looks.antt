@@ -1,5 +1,5 @@
 -- What verification sees of each block, and what follows from it.
-use Rattle.std.specs.Prelude.{◌≡◌, ℕ, ◌+◌, ◌%◌, ◌^◌, ◌≤◌, min, Bool, IsTrue, true, false, not, ◌==◌, ⊤, List, [], ◌∷◌, ◌++◌, Option, Some, None, count_by, cond, refl, length}
+use Rattle.std.specs.Prelude.{◌≡◌, ℕ, ◌+◌, Bool, true, false, not, ◌==◌, ⊤, List, [], ◌∷◌, ◌++◌, Option, Some, None}
 use Rattle.vd_base.specs.declared.geometry.BlockNo.{BlockNo}
 use Rattle.vd_base.specs.declared.geometry.StoreId.{StoreId}
 use Rattle.key_state.specs.declared.entry.Entry.{Entry}

@@ -1,5 +1,5 @@
 -- What verifying some blocks of a store does.
-use Rattle.std.specs.Prelude.{◌≡◌, ℕ, ◌+◌, ◌%◌, ◌^◌, ◌-◌, ◌≤◌, min, Bool, IsTrue, List, ◌++◌, Some, count_by, slice_get}
+use Rattle.std.specs.Prelude.{◌≡◌, ℕ, ◌+◌, ◌^◌, ◌-◌, ◌≤◌, min, IsTrue, List, ◌++◌, Some, count_by, slice_get}
 use Rattle.vd_base.specs.Geometry.{Shape}
 use Rattle.vd_base.specs.declared.geometry.StoreId.{StoreId}
 use Rattle.key_state.specs.declared.entry.Entry.{Entry}

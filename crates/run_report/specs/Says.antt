@@ -1,5 +1,5 @@
 -- What a printer has done: lines go out as the work goes on, and none after a write that failed.
-use Rattle.std.specs.Prelude.{◌≡◌, ℕ, ◌+◌, ◌-◌, ◌≤◌, ◌^◌, min, Bool, true, false, List, [], ◌∷◌, ◌++◌, take, length, Option, Some, None, refl}
+use Rattle.std.specs.Prelude.{◌≡◌, ℕ, ◌+◌, ◌≤◌, min, Bool, true, false, List, [], ◌∷◌, ◌++◌, take, length, Option, Some, None, refl}
 use Rattle.std.specs.Io.KnownBytes.{Appends}
 use Rattle.std.proofs.Common.{suc, sym, ◌∙◌, ap, arith, subst, inl, inr, ◌⊎◌}
 use Rattle.std.proofs.lemmas.List.{append_assoc, append-nil, take-append-le, take_min, take_at}

@@ -13,7 +13,5 @@ mod words;
 pub use finding::{Verified, finding_line, verified_line};
 pub use journal::{damaged_line, journal_fault_line, journal_line, mismatch_line, no_journal_line};
 pub use printer::Printer;
-pub use status::{Status, status_line};
-pub use words::{
-    cannot_open_line, cannot_read_line, form_not_built_line, no_memory_line, usage_line,
-};
+pub use status::{Status, last_lines};
+pub use words::{cannot_open_line, cannot_read_line, form_not_built_line, usage_line};

@@ -1,6 +1,6 @@
 // The status that a command ends with.
 ghost use Rattle.std.specs.Prelude.{◌≡◌};
-ghost use Rattle.run_report.specs.Status.{number_of, status_text};
+ghost use Rattle.run_report.specs.Status.{number_of, last_text};
 
 /// How a command ended, by which a script knows the cause.
 #[derive(Clone, Copy, Debug, PartialEq, Eq, Drop)]
@@ -59,9 +59,10 @@ impl Status {
     }
 }
 
-/// The last line of a command. It takes no memory, so that every status can be said.
-pub fn status_line(status: Status) -> &'static str
-    ensures { result.now ≡ status_text status }
+/// The last lines of a command: its status, and before it where memory ran out. After a write that failed there are none. They take no
+/// memory, so that every status can be said.
+pub fn last_lines(status: Status) -> &'static str
+    ensures { result.now ≡ last_text status }
 {
     match status {
         Status::Good => "status 0\n",
@@ -70,13 +71,13 @@ pub fn status_line(status: Status) -> &'static str
         Status::Parameter => "status 3\n",
         Status::Usage => "status 4\n",
         Status::Source => "status 5\n",
-        Status::Sink => "status 6\n",
+        Status::Sink => "",
         Status::Journal => "status 7\n",
         Status::NoJournal => "status 8\n",
         Status::Damaged => "status 9\n",
         Status::Mismatch => "status 10\n",
         Status::Yard => "status 12\n",
         Status::EpochEnd => "status 13\n",
-        Status::NoMemory => "status 20\n",
+        Status::NoMemory => "no memory\nstatus 20\n",
     }
 }

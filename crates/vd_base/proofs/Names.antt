@@ -1,11 +1,10 @@
 -- The text of a name stands before its first zero, and is text.
-use Rattle.std.proofs.Common.{get_or, zero, suc, ◌≡◌, ℕ, ◌+◌, ◌-◌, ◌≤◌, ◌<◌, List, [], ◌∷◌, ◌++◌, take, length, replicate, refl, sym, ◌∙◌, ap, Option, Some, None, arith, rules, Bool, true, false, cond, not, ◌&&◌, ◌==◌, nat_lt, nat_le, IsTrue}
+use Rattle.std.proofs.Common.{get_or, zero, suc, ◌≡◌, ℕ, ◌+◌, ◌-◌, ◌<◌, List, [], ◌∷◌, ◌++◌, take, length, replicate, refl, sym, ◌∙◌, ap, Some, None, arith, Bool, true, false, cond, ◌&&◌, ◌==◌, nat_lt}
 use Rattle.std.specs.List.{position, position_or_len, before_first, list_all}
-use Rattle.std.specs.Str.{IsUtf8, IsAscii}
+use Rattle.std.specs.Str.{IsUtf8}
 use Rattle.std.proofs.lemmas.Bool.Decides.{nat_tests}
 use Rattle.std.proofs.lemmas.List.{take_all}
 use Rattle.std.proofs.lemmas.Str.{IsUtf8-from_ascii}
-use Rattle.std.specs.Str.{bytes_eq}
 use Rattle.std.proofs.lemmas.Slice.Eq.{bytes_eq-Decides}
 use Rattle.std.proofs.Math.Seq.{take-append_seam}
 use Rattle.vd_base.specs.Name.{is_name_byte, is_store_name, is_padded_name, name_text, padded}

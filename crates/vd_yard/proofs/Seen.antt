@@ -1,5 +1,5 @@
 -- The disks that are kept once one is put.
-use Rattle.std.proofs.Common.{◌≡◌, ℕ, Bool, true, false, cond, List, Option, Some, refl, sym, ◌∙◌, ap}
+use Rattle.std.proofs.Common.{◌≡◌, ℕ, Bool, true, false, cond, List, Option, Some, None, refl, sym, ◌∙◌, ap}
 use Rattle.std.specs.Str.{bytes_eq}
 use Rattle.vd_disk.specs.Disk.{DiskSeen}
 use Rattle.vd_disk.specs.MemDisk.{mem_disk_seen}
@@ -20,6 +20,13 @@ disks_kept disks path disk =
 pub disk_told : (disks : Kept MemDisk) (path path' : List ℕ) (disk : MemDisk) (kept : DiskSeen) → path' ≡ path → kept_at disks path' ≡ Some disk →
     kept_at (disks_in disks) path ≡ Some kept → mem_disk_seen disk ≡ kept
 disk_told disks path path' disk kept same found told =
+    let here : kept_at disks path ≡ Some disk = ap (λ (q : List ℕ). kept_at disks q) (sym same) ∙ found in
+    let seen : kept_at (disks_in disks) path ≡ Some (mem_disk_seen disk) = kept_at_kept_of (λ q. disk_seen (kept_at disks q)) path ∙ ap disk_seen here in
+    cc
+
+-- nor is none kept where one was found
+pub disk_found : (disks : Kept MemDisk) (path path' : List ℕ) (disk : MemDisk) → path' ≡ path → kept_at disks path' ≡ Some disk → kept_at (disks_in disks) path ≡ None → ⊥
+disk_found disks path path' disk same found none =
     let here : kept_at disks path ≡ Some disk = ap (λ (q : List ℕ). kept_at disks q) (sym same) ∙ found in
     let seen : kept_at (disks_in disks) path ≡ Some (mem_disk_seen disk) = kept_at_kept_of (λ q. disk_seen (kept_at disks q)) path ∙ ap disk_seen here in
     cc

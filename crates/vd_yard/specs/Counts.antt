@@ -92,6 +92,15 @@ pub arm_faults_grow : (c : Counts) (p : List ℕ) (f r w : ℕ) (q : List ℕ) �
 unfolding arm_faults add_arm
 arm_faults_grow c p f r w q = rw (pick_arm (bytes_eq p q)) (grows (bytes_eq p q) (c.at q).arm_faults f)
 
+none_held_arm : (b : Bool) (c : PathCounts) (r w : ℕ) → (cond b (record { source_faults = c.source_faults; arm_faults = held c.arm_faults 0; good_reads = r; good_writes = w }) c).arm_faults ≡ c.arm_faults
+none_held_arm true c r w = omega arith
+none_held_arm false c r w = refl
+
+-- an arm without a fault leaves the counts of faults
+pub arm_faults_none : (c : Counts) (p : List ℕ) (r w : ℕ) (q : List ℕ) → arm_faults (add_arm c p 0 r w) q ≡ arm_faults c q
+unfolding arm_faults add_arm
+arm_faults_none c p r w q = none_held_arm (bytes_eq p q) (c.at q) _ _
+
 pub source_faults_of_arm : (c : Counts) (p : List ℕ) (f r w : ℕ) (q : List ℕ) → source_faults (add_arm c p f r w) q ≡ source_faults c q
 unfolding source_faults add_arm
 source_faults_of_arm c p f r w q = rw (pick_source (bytes_eq p q)) (same_cond (bytes_eq p q) _)

@@ -51,7 +51,7 @@ pub record YardSeen : Type 0 where
 pub record Opens {T : Type 0} (kind : Kind) (path : List ℕ) (old new : YardSeen) (result : Result T YardFault) : Type 0 where
   pub later : old.faults ≤ new.faults
   pub failed : IsErrOf result Failed → Rose old.faults new.faults
-  pub kept : OnOk result (new.faults ≡ old.faults)
+  pub kept : (IsErrOf result Failed → ⊥) → new.faults ≡ old.faults
   pub taken : OnOk result (new.out ≡ one_more old.out kind path)
   pub not_taken : OnErr result (new.out ≡ old.out)
   pub counts : new.counts ≡ old.counts

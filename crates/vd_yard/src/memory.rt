@@ -195,6 +195,7 @@ impl Yard for MemYard {
         ensures opens { Opens AtDisk path.now (mem_yard_seen self.old) (mem_yard_seen self.new) result }
         ensures willing { IsTrue (mem_yard_seen self.old).willing → IsTrue (is_there (mem_yard_seen self.old).files AtDisk path.now) →
             IsErrOf result YardFault.Failed → ⊥ }
+        ensures absent { IsTrue (mem_yard_seen self.old).tells.keeps_disks → kept_at (mem_yard_seen self.old).disks path.now ≡ None → OnOk result ⊥ }
         ensures told { (kept : DiskSeen) → kept_at (mem_yard_seen self.old).disks path.now ≡ Some kept → IfOk result (λ disk. mem_disk_seen disk ≡ kept) }
         ensures refused { IsTrue (list_any (hits path.now) (refusals_of self.old)) → IsErrOf result YardFault.Failed }
         ensures counted { refusals_of self.new ≡ map (after_call path.now) (refusals_of self.old) }

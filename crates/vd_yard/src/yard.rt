@@ -1,5 +1,5 @@
 // Where a command gets its files.
-ghost use Rattle.std.specs.Prelude.{◌≡◌, ◌≤◌, IfOk, IsErrOf, IsTrue, map, Some};
+ghost use Rattle.std.specs.Prelude.{OnOk, None, ◌≡◌, ◌≤◌, IfOk, IsErrOf, IsTrue, map, Some};
 ghost use Rattle.vd_disk.specs.Disk.{DiskSeen};
 ghost use Rattle.vd_yard.specs.Out.{AtSource, AtDisk, AtPasses, AtArm, out_at};
 ghost use Rattle.vd_yard.specs.Counts.{add_source, add_arm};
@@ -37,6 +37,7 @@ pub trait Yard {
     fn disk(&mut self, path: &Text) -> Result<Self::Disk, YardFault>
         ensures opens { Opens AtDisk path.now (seen self.old) (seen self.new) result }
         ensures willing { IsTrue (seen self.old).willing → IsTrue (is_there (seen self.old).files AtDisk path.now) → IsErrOf result YardFault.Failed → ⊥ }
+        ensures absent { IsTrue (seen self.old).tells.keeps_disks → kept_at (seen self.old).disks path.now ≡ None → OnOk result ⊥ }
         ensures told { (kept : DiskSeen) → kept_at (seen self.old).disks path.now ≡ Some kept → IfOk result (λ d. Self.Disk.seen d ≡ kept) };
 
     /// The passes of a store, one for each block. Its file is made where it isn't there, and lengthened by zeros where it is short.

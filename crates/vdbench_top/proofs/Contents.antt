@@ -1,13 +1,12 @@
 -- The bytes of a store's passes, given back as they came.
-use Rattle.std.proofs.Common.{◌≡◌, ℕ, zero, suc, ◌+◌, ◌-◌, ◌*◌, ◌<◌, ◌≤◌, Bool, true, false, IsTrue, List, [], ◌∷◌, ◌++◌, length, take, drop, map, get_or, replicate, refl, sym, ◌∙◌, ap, subst, arith, rules, append_assoc, inl, inr, ◌⊎◌}
+use Rattle.std.proofs.Common.{◌≡◌, ℕ, zero, suc, ◌+◌, ◌*◌, ◌<◌, ◌≤◌, Bool, true, false, IsTrue, List, [], ◌∷◌, ◌++◌, length, take, drop, map, get_or, replicate, refl, sym, ◌∙◌, ap, subst, arith, rules, append_assoc}
 use Rattle.std.specs.Prelude.{Option, Some, None, slice_get, unwrap_or}
 use Rattle.std.specs.List.{concat}
-use Rattle.std.proofs.lemmas.List.{take-append-le, length-take-le, length-append, length-map, get_or-map, take_all}
+use Rattle.std.proofs.lemmas.List.{length-take-le, length-append, length-map, get_or-map}
 use Rattle.std.proofs.Math.Seq.{take-append_seam, drop-append-add}
 use Rattle.std.proofs.Math.Nat.{suc-mul}
 use Rattle.std.proofs.lemmas.List.{length-replicate}
 use Rattle.std.proofs.lemmas.Option.{slice_get_within, get_or_from_slice_get, slice_get-get_or}
-use Rattle.vd_base.specs.Geometry.{Shape}
 use Rattle.vd_arm.specs.Arm.{PassSeen}
 use Rattle.plan_types.specs.declared.store.StorePlan.{StorePlan}
 use Rattle.vd_yard.specs.Kept.{Kept, kept_at, keep_at, keep_at_here, keep_at_other, keep_at_untold, bytes_at}

@@ -1,7 +1,7 @@
 -- Printable bytes are text, and a slice up to a comma is what stands before it.
-use Rattle.std.proofs.Common.{get_or, zero, suc, ◌≡◌, ℕ, ◌≤◌, ◌<◌, List, [], ◌∷◌, ◌++◌, take, length, refl, sym, ◌∙◌, ap, Option, Some, None, arith, rules, Bool, true, false, cond, ◌&&◌, nat_lt, nat_le, IsTrue}
+use Rattle.std.proofs.Common.{get_or, zero, suc, ◌≡◌, ℕ, ◌<◌, List, [], ◌∷◌, take, length, refl, sym, ap, Some, None, arith, Bool, true, false, cond, ◌&&◌, nat_lt}
 use Rattle.std.specs.List.{position, position_or_len, before_first, list_all}
-use Rattle.std.specs.Str.{IsUtf8, IsAscii}
+use Rattle.std.specs.Str.{IsUtf8}
 use Rattle.std.proofs.lemmas.Bool.Decides.{nat_tests}
 use Rattle.std.proofs.lemmas.List.{take_all}
 use Rattle.std.proofs.lemmas.Str.{IsUtf8-from_ascii}

@@ -1,10 +1,11 @@
 -- What a part of a command leaves as it was.
-use Rattle.std.proofs.Common.{◌≡◌, ℕ, ◌≤◌, List, refl, sym, ◌∙◌, ap, inl, inr, ◌⊎◌, subst, arith}
-use Rattle.std.specs.Prelude.{Bool, Option, Some}
+use Rattle.std.proofs.Common.{◌≡◌, ℕ, ◌+◌, ◌-◌, ◌^◌, min, ◌≤◌, List, refl, sym, ◌∙◌, ap, inl, inr, ◌⊎◌, subst, arith}
+use Rattle.std.specs.Prelude.{Bool, Some}
 use Rattle.vd_disk.specs.Disk.{DiskSeen}
 use Rattle.vd_yard.specs.Kept.{Kept, kept_at, keep_at, keep_at_either, bytes_at}
 use Rattle.plan_types.specs.declared.store.StorePlan.{StorePlan}
 use Rattle.vd_yard.specs.Contents.{file_block}
+use Rattle.vd_yard.specs.Counts.{Counts, held, add_arm, arm_faults, arm_faults_here}
 use Rattle.vdbench_top.specs.Frame.{Unwritten, JournalsStay, BlocksStay}
 
 unwritten_same : (disk : DiskSeen) → Unwritten disk disk
@@ -46,3 +47,13 @@ blocks_same store old new e = record {
   blocks = λ block within. ap (λ (k : Kept (List ℕ)). file_block store.id.geometry.block_size block (bytes_at k store.path)) e;
   others = λ path other. ap (λ (k : Kept (List ℕ)). kept_at k path) e;
 }
+
+pub contents_along : (a b c : Kept (List ℕ)) → b ≡ a → (c ≡ b) ⊎ ((store : StorePlan) × BlocksStay store b c) → (c ≡ a) ⊎ ((store : StorePlan) × BlocksStay store a c)
+contents_along a b c e (inl same) = inl (same ∙ e)
+contents_along a b c e (inr stay) = inr (stay.0, subst (λ (k : Kept (List ℕ)). BlocksStay stay.0 k c) e stay.1)
+
+-- What an arm failed by is added to its path's count.
+pub front_rose : (old new mid : Counts) (path : List ℕ) (f g r w n : ℕ) → mid ≡ old → new ≡ add_arm mid path g r w → f ≡ 0 → min (f + n) (2 ^ 64 - 1) ≤ g → min (arm_faults old path + n) (2 ^ 64 - 1) ≤ arm_faults new path
+front_rose old new mid path f g r w n e k z p =
+    let here : arm_faults new path ≡ held (arm_faults old path) g = ap (λ (c : Counts). arm_faults c path) k ∙ (arm_faults_here mid path g r w ∙ ap (λ (c : Counts). held (arm_faults c path) g) e) in
+    omega (arith, here, p, z)

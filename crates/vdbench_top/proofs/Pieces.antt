@@ -1,8 +1,6 @@
 -- A store verified piece by piece.
-use Rattle.std.proofs.Common.{◌≡◌, ℕ, zero, suc, ◌+◌, ◌-◌, ◌*◌, ◌^◌, ◌<◌, ◌≤◌, Bool, true, false, List, [], ◌∷◌, ◌++◌, length, take, drop, map, get_or, refl, sym, ◌∙◌, ap, subst, arith, rules, append_assoc}
-use Rattle.std.specs.Prelude.{count_by, Option, Some, slice_get, slice_range, cond}
-use Rattle.std.specs.List.{concat}
-use Rattle.std.specs.Option.{option_map}
+use Rattle.std.proofs.Common.{◌≡◌, ℕ, zero, suc, ◌+◌, ◌-◌, ◌^◌, ◌<◌, ◌≤◌, Bool, List, [], ◌∷◌, ◌++◌, length, take, drop, map, get_or, refl, sym, ◌∙◌, ap, subst, arith, append_assoc, min}
+use Rattle.std.specs.Prelude.{count_by, Some, slice_get, slice_range, cond}
 use Rattle.std.proofs.lemmas.List.{take_more, take_all, append-nil, get_or-take, get_or-drop, length-take-le, length-drop, length-map, length-append, take-map, drop-map}
 use Rattle.std.proofs.Math.Seq.{take-add}
 use Rattle.std.proofs.lemmas.Option.{slice_get_within, get_or_from_slice_get, slice_get-get_or}
@@ -14,17 +12,14 @@ use Rattle.vd_arm.specs.Arm.{PassSeen}
 use Rattle.vd_yard.specs.Contents.{AreBlocks}
 use Rattle.key_state.specs.declared.entry.Entry.{Entry}
 use Rattle.key_state.specs.declared.entry.Entry.TheVariants as entry
-use Rattle.key_state.specs.Entries.{IsEntry, AreEntries, entry_at}
+use Rattle.key_state.specs.Entries.{IsEntry, AreEntries}
 use Rattle.block_verdict.specs.declared.finding.Finding.{Finding}
-use Rattle.block_verdict.specs.declared.finding.Finding.TheVariants as finding
-use Rattle.block_verdict.specs.declared.outcome.Verdict.{Verdict}
 use Rattle.block_verdict.specs.declared.outcome.Verdict.TheVariants as verdict
-use Rattle.block_verdict.specs.Verdicts.{IsVerdict}
 use Rattle.recover_run.specs.declared.look.Look.{Look}
 use Rattle.recover_run.specs.declared.look.Look.TheVariants as look
 use Rattle.recover_run.specs.Looks.{AreLooks, LooksAt, findings_from, block_findings, is_seen, is_unread, is_corrupt}
 use Rattle.recover_run.specs.Part.{ArePart, Verifies}
-use Rattle.recover_run.proofs.Looking.{count-append, no_looks, no_findings, looks_as_many, looks_append, findings_append}
+use Rattle.recover_run.proofs.Looking.{count-append, no_looks, no_findings, looks_append, findings_append}
 use Rattle.run_report.specs.declared.finding.Verified.{Verified}
 use Rattle.run_report.specs.Findings.{finding_text, IsPrintable}
 use Rattle.run_report.specs.Says.{Says, Printing, says_along, says_none}
@@ -312,11 +307,11 @@ small_sum entries a b looks more total part le within few many most p q =
     )
 
 -- ---- how far a verification came
-pub front_none : {A : Type 0} (seen : A → PassSeen) (id : StoreId) (entries : List Entry) (passes : List A) (a : Printing) → (n : ℕ) × (looks : List Look) × AreLooks id (take n entries) (take n (map seen passes)) looks × Says a a (lines_of id (take n entries) looks)
-front_none seen id entries passes a = (0, [], no_looks id, says_along a a _ _ (no_lines id) (says_none a))
+pub front_none : {A : Type 0} (seen : A → PassSeen) (id : StoreId) (entries : List Entry) (passes : List A) (f : ℕ) (a : Printing) → (n : ℕ) × (looks : List Look) × AreLooks id (take n entries) (take n (map seen passes)) looks × (min (f + count_by is_unread looks) (2 ^ 64 - 1) ≤ f) × Says a a (lines_of id (take n entries) looks)
+front_none seen id entries passes f a = (0, [], no_looks id, omega arith, says_along a a _ _ (no_lines id) (says_none a))
 
-pub front_all : {A : Type 0} (seen : A → PassSeen) (id : StoreId) (entries : List Entry) (passes : List A) (looks : List Look) (a b : Printing) → length (map seen passes) ≡ length entries → AreLooks id entries (map seen passes) looks → Says a b (lines_of id entries looks) → (n : ℕ) × (looks : List Look) × AreLooks id (take n entries) (take n (map seen passes)) looks × Says a b (lines_of id (take n entries) looks)
-front_all seen id entries passes looks a b many p q =
+pub front_all : {A : Type 0} (seen : A → PassSeen) (id : StoreId) (entries : List Entry) (passes : List A) (looks : List Look) (f g : ℕ) (a b : Printing) → length (map seen passes) ≡ length entries → AreLooks id entries (map seen passes) looks → min (f + count_by is_unread looks) (2 ^ 64 - 1) ≤ g → Says a b (lines_of id entries looks) → (n : ℕ) × (looks : List Look) × AreLooks id (take n entries) (take n (map seen passes)) looks × (min (f + count_by is_unread looks) (2 ^ 64 - 1) ≤ g) × Says a b (lines_of id (take n entries) looks)
+front_all seen id entries passes looks f g a b many p r q =
     let all : take (length entries) entries ≡ entries = take_all (length entries) entries (omega arith) in
     let each : take (length entries) (map seen passes) ≡ map seen passes = take_all (length entries) (map seen passes) (omega (arith, many)) in
-    (length entries, looks, rw (all, each) p, subst (λ (es : List Entry). Says a b (lines_of id es looks)) (sym all) q)
+    (length entries, looks, rw (all, each) p, r, subst (λ (es : List Entry). Says a b (lines_of id es looks)) (sym all) q)

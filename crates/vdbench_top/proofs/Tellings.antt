@@ -1,6 +1,6 @@
 -- From what is said of one store to what is said of a parameter file.
-use Rattle.std.proofs.Common.{◌≡◌, ℕ, zero, suc, ◌+◌, ◌-◌, ◌^◌, ◌<◌, ◌≤◌, min, Bool, true, false, cond, IsTrue, List, [], ◌∷◌, ◌++◌, length, take, refl, sym, ◌∙◌, ap, subst, arith, rules, inl, inr, ◌⊎◌, Result, Ok, Err, IfOk}
-use Rattle.std.specs.Prelude.{Option, Some, None, count_by, ◌≢◌, ◌==◌, IsErrOf}
+use Rattle.std.proofs.Common.{◌≡◌, ℕ, zero, suc, ◌+◌, ◌-◌, ◌^◌, ◌<◌, ◌≤◌, min, Bool, true, false, cond, IsTrue, List, [], ◌++◌, length, take, refl, sym, ◌∙◌, ap, subst, arith, rules, inl, inr, ◌⊎◌, Ok, Err}
+use Rattle.std.specs.Prelude.{Option, Some, None, count_by, ◌≢◌, ◌==◌}
 use Rattle.vd_outside.specs.Causes.{Rose}
 use Rattle.vd_base.specs.declared.geometry.StoreId.{StoreId}
 use Rattle.vd_disk.specs.Disk.{DiskSeen, Sectors}
@@ -8,30 +8,28 @@ use Rattle.vd_arm.specs.Arm.{PassSeen}
 use Rattle.vd_yard.specs.Counts.{Counts, arm_faults, source_faults}
 use Rattle.vd_yard.specs.Kept.{Kept, kept_at, bytes_at}
 use Rattle.vd_yard.specs.Contents.{TellFile}
-use Rattle.vd_yard.specs.Out.{AtDisk, AtSource}
-use Rattle.vd_yard.specs.Yard.{YardSeen, Tells, StaysThere, HasFiles, is_there}
+use Rattle.vd_yard.specs.Out.{AtDisk, AtSource, AtArm}
+use Rattle.vd_yard.specs.Yard.{YardSeen, Tells, StaysThere, is_there}
 use Rattle.plan_types.specs.declared.store.StorePlan.{StorePlan}
 use Rattle.key_state.specs.declared.entry.Entry.{Entry}
-use Rattle.key_state.specs.declared.record.Record.{Record}
-use Rattle.journal_layout.specs.declared.live.Live.{Live}
-use Rattle.journal_layout.specs.Recovery.{Outcome, Gives, NoJournal, Mismatch, Damaged, Recovers}
+use Rattle.journal_layout.specs.declared.damage.Damage.{Damage}
+use Rattle.journal_layout.specs.Recovery.{Outcome, Gives, NoJournal, Mismatch, Damaged}
 use Rattle.journal_recover.specs.Answers.{Answers}
 use Rattle.journal_recover.specs.declared.found.Recovered.{Recovered}
 use Rattle.journal_recover.specs.declared.fault.RecoverFault.{RecoverFault}
 use Rattle.journal_recover.specs.declared.fault.RecoverFault.TheVariants as refusal
-use Rattle.recover_run.specs.declared.look.Look.{Look}
-use Rattle.recover_run.specs.Looks.{AreLooks, is_unread}
+use Rattle.recover_run.specs.Looks.{is_unread}
 use Rattle.run_report.specs.declared.status.Status.{Status}
 use Rattle.run_report.specs.declared.status.Status.TheVariants as status
-use Rattle.run_report.specs.declared.finding.Verified.{Verified}
-use Rattle.run_report.specs.Lines.{journal_text, form_not_built_text, cannot_read_text, cannot_open_text, no_journal_text, mismatch_text, damaged_text, journal_fault_text}
-use Rattle.run_report.specs.Says.{Printing, Says, says_then, says_along, says_none}
+use Rattle.run_report.specs.Lines.{journal_text, form_not_built_text, cannot_read_text, cannot_open_text, journal_fault_text}
+use Rattle.run_report.specs.Says.{Printing, Says, says_then}
 use Rattle.vdbench_top.specs.Form.{store_in}
 use Rattle.vdbench_top.specs.Frame.{JournalsStay}
 use Rattle.vdbench_top.proofs.Pieces.{counted_faults}
-use Rattle.vdbench_top.specs.Recovery.{SaysOr, SaysRefusal, outcome_text, outcome_status, damage_word}
-use Rattle.vdbench_top.specs.Verification.{store_text, lines_of, counted_of, counted_status, ArePassesOf, FaultsRose}
-use Rattle.vdbench_top.specs.Still.{Report, report, Finds, no_form, refused, verified, verified_report, Faults, no_source, source_failed, no_journal_disk, journal_failed, no_data, Fronts, nothing, recovered, verifying, IsStill, IsSaid, found, still, fault, cut, IsTold, IsHonest, Caused, SaysStore, whole, unopened, early_none, early_line, early_blocks, SaidOfStore, SaidOfBytes, IsJournalTold, Causes, Ends, last_text}
+use Rattle.vdbench_top.specs.Recovery.{SaysOr, SaysRefusal, outcome_text, outcome_status}
+use Rattle.vdbench_top.specs.Verification.{store_text, lines_of, counted_of, ArePassesOf, RoseBy, FaultsRose}
+use Rattle.vdbench_top.specs.Still.{Report, report, Finds, no_form, refused, verified, verified_report, Faults, no_source, source_failed, no_journal_disk, journal_failed, no_data, Fronts, nothing, recovered, verifying, IsStill, IsSaid, found, still, fault, cut, IsTold, IsHonest, SaysStore, whole, unopened, early_none, early_line, early_blocks, SaidOfStore, SaidOfBytes, IsJournalTold, JournalTold, is_there_told, is_missing, Causes, Ends}
+use Rattle.run_report.specs.Status.{last_text}
 
 -- the passes of what a yard keeps, where another has the same
 pub passes_same : (a b : YardSeen) (store : StorePlan) (passes : List PassSeen) → b.tells ≡ a.tells → b.contents ≡ a.contents → ArePassesOf b store passes → ArePassesOf a store passes
@@ -42,50 +40,63 @@ passes_same a b store passes t k p = record {
       subst (λ (c : Kept (List ℕ)). TellFile store.id.geometry (bytes_at c store.path) passes) k (p.told there);
 }
 
-rose_same : (a b c : YardSeen) (path : List ℕ) (n : ℕ) → arm_faults b.counts path ≡ arm_faults a.counts path → FaultsRose b c path n → FaultsRose a c path n
-rose_same a b c path n e p = record {
-  rose = subst (λ (m : ℕ). min (m + n) (2 ^ 64 - 1) ≤ arm_faults c.counts path) e p.rose;
-  kept = λ z. p.kept z ∙ e;
+rose_by_same : (a b c : YardSeen) (path : List ℕ) (n : ℕ) → arm_faults b.counts path ≡ arm_faults a.counts path → RoseBy b c path n → RoseBy a c path n
+rose_by_same a b c path n e p = subst (λ (m : ℕ). min (m + n) (2 ^ 64 - 1) ≤ arm_faults c.counts path) e p
+
+rose_same : (a b c : YardSeen) (path : List ℕ) (n : ℕ) → b.tells ≡ a.tells → ((q : List ℕ) → arm_faults b.counts q ≡ arm_faults a.counts q) → FaultsRose b c path n → FaultsRose a c path n
+rose_same a b c path n t e p = record {
+  rose = rose_by_same a b c path n (e path) p.rose;
+  kept = λ z q. p.kept z q ∙ e q;
+  sure = λ s q. p.sure (subst (λ (x : Tells). IsTrue (x.sure AtArm path)) (sym t) s) q ∙ e q;
 }
 
 rose_earlier : (a b c : ℕ) → a ≤ b → Rose b c → Rose a c
 rose_earlier a b c p r = omega arith
 
+told_there : (a : YardSeen) (store : StorePlan) → (IsTrue a.tells.keeps_disks → kept_at a.disks store.journal ≡ None → ⊥) → JournalTold a store → IsJournalTold a store
+told_there a store gone (is_there_told t) = t
+told_there a store gone (is_missing keeps none) = absurd (gone keeps none)
+
 pub said_of_recovered : (a b c : YardSeen) (store : StorePlan) (got : Recovered) (result : Status) (p q : Printing) → b.tells ≡ a.tells → b.contents ≡ a.contents → b.counts ≡ a.counts → a.faults ≤ b.faults → (IsTrue a.willing → IsTrue b.willing)
+    → (IsTrue a.tells.keeps_disks → kept_at a.disks store.journal ≡ None → ⊥)
     → ((disk : DiskSeen) → kept_at a.disks store.journal ≡ Some disk → (sectors : Sectors) → disk.told ≡ Some sectors → Answers sectors store.id (Ok got))
     → SaysStore b c store got.live.epoch got.records got.entries.items result p q → (text : List ℕ) × Says p q text × SaidOfStore a c store text result
-said_of_recovered a b c store got result p q t k n le w answers (whole passes looks f g h r s) = (
+said_of_recovered a b c store got result p q t k n le w gone answers (whole passes looks f g h r s) = (
   journal_text store.id.name got.live.epoch got.records ++ store_text store.id got.entries.items looks,
   s,
-  λ file parameters is told.
+  λ file parameters is told0.
+      let told = told_there a store gone told0 in
       let gives = answers told.disk told.kept told.sectors told.told in
       still (found (verified_report store got.live.epoch (length gives.0) got.entries.items looks)
-      (verified store told.disk told.sectors got.live gives.0 got.entries.items passes looks is told.kept told.told gives.2 (passes_same a b store passes t k f) g (rose_same a b c store.path _ (ap (λ (x : Counts). arm_faults x store.path) n) h) refl)
+      (verified store told.disk told.sectors got.live gives.0 got.entries.items passes looks is told.kept told.told gives.2 (passes_same a b store passes t k f) g (rose_same a b c store.path _ t (λ q. ap (λ (x : Counts). arm_faults x q) n) h) refl)
       (ap (λ m. journal_text store.id.name got.live.epoch m ++ store_text store.id got.entries.items looks) (sym gives.1)) r),
 )
-said_of_recovered a b c store got result p q t k n le w answers (unopened f g r s) = (
+said_of_recovered a b c store got result p q t k n le w gone answers (unopened f g z r s) = (
   journal_text store.id.name got.live.epoch got.records ++ cannot_open_text store.path,
   s,
-  λ file parameters is told.
+  λ file parameters is told0.
+      let told = told_there a store gone told0 in
       let gives = answers told.disk told.kept told.sectors told.told in
       fault (report (journal_text store.id.name got.live.epoch (length gives.0) ++ cannot_open_text store.path) status.Yard)
       (no_data store told.disk told.sectors got.live gives.0 got.entries.items is told.kept told.told gives.2 (rose_earlier a.faults b.faults c.faults le f) (λ x y. g (w x) y) refl)
       (ap (λ m. journal_text store.id.name got.live.epoch m ++ cannot_open_text store.path) (sym gives.1)) r,
 )
-said_of_recovered a b c store got result p q t k n le w answers (early_none s r) = ([], s, λ file parameters is told. still (cut (nothing refl) r))
-said_of_recovered a b c store got result p q t k n le w answers (early_line s r) = (
+said_of_recovered a b c store got result p q t k n le w gone answers (early_none s r) = ([], s, λ file parameters is told. still (cut (nothing refl) r))
+said_of_recovered a b c store got result p q t k n le w gone answers (early_line s r) = (
   journal_text store.id.name got.live.epoch got.records,
   s,
-  λ file parameters is told.
+  λ file parameters is told0.
+      let told = told_there a store gone told0 in
       let gives = answers told.disk told.kept told.sectors told.told in
       still (cut (recovered store told.disk told.sectors got.live gives.0 got.entries.items is told.kept told.told gives.2 (ap (λ m. journal_text store.id.name got.live.epoch m) (sym gives.1))) r),
 )
-said_of_recovered a b c store got result p q t k n le w answers (early_blocks m passes looks f g s r) = (
+said_of_recovered a b c store got result p q t k n le w gone answers (early_blocks m passes looks f g h s r) = (
   journal_text store.id.name got.live.epoch got.records ++ lines_of store.id (take m got.entries.items) looks,
   s,
-  λ file parameters is told.
+  λ file parameters is told0.
+      let told = told_there a store gone told0 in
       let gives = answers told.disk told.kept told.sectors told.told in
-      still (cut (verifying store told.disk told.sectors got.live gives.0 got.entries.items m passes looks is told.kept told.told gives.2 (passes_same a b store passes t k f) g (ap (λ x. journal_text store.id.name got.live.epoch x ++ lines_of store.id (take m got.entries.items) looks) (sym gives.1))) r),
+      still (cut (verifying store told.disk told.sectors got.live gives.0 got.entries.items m passes looks is told.kept told.told gives.2 (passes_same a b store passes t k f) g (rose_by_same a b c store.path _ (ap (λ (x : Counts). arm_faults x store.path) n) h) (ap (λ x. journal_text store.id.name got.live.epoch x ++ lines_of store.id (take m got.entries.items) looks) (sym gives.1))) r),
 )
 
 -- ---- causes of a status
@@ -138,6 +149,27 @@ never_usage true true e = cc
 never_usage true false e = cc
 never_usage false d e = cc
 
+never_epoch : (b d : Bool) → cond b (cond d status.Good status.Corrupt) status.Device ≡ status.EpochEnd → ⊥
+never_epoch true true e = cc
+never_epoch true false e = cc
+never_epoch false d e = cc
+
+yard_is_no_epoch : status.Yard ≡ status.EpochEnd → ⊥
+yard_is_no_epoch e = cc
+
+memory_is_no_epoch : status.NoMemory ≡ status.EpochEnd → ⊥
+memory_is_no_epoch e = cc
+
+sink_is_no_epoch : status.Sink ≡ status.EpochEnd → ⊥
+sink_is_no_epoch e = cc
+
+some_one : (n : ℕ) → (suc n == 0) ≡ false
+some_one n = search rules
+
+no_faults : (n : ℕ) (d : Bool) → (cond (n == 0) (cond d status.Good status.Corrupt) status.Device ≡ status.Device → ⊥) → n ≡ 0
+no_faults zero d f = refl
+no_faults (suc n) d f = absurd (f (ap (λ (b : Bool). cond b (cond d status.Good status.Corrupt) status.Device) (some_one n)))
+
 never_source : (b d : Bool) → cond b (cond d status.Good status.Corrupt) status.Device ≡ status.Source → ⊥
 never_source true true e = cc
 never_source true false e = cc
@@ -151,12 +183,16 @@ some_faults (suc n) d e = omega arith
 rose_by : (a c n : ℕ) → min (a + n) (2 ^ 64 - 1) ≤ c → 1 ≤ n → Rose a c
 rose_by a c n p q = omega arith
 
-ended_early : (result : Status) → (result ≡ status.NoMemory) ⊎ (result ≡ status.Sink) → (result ≡ status.Yard → ⊥) × (result ≡ status.Device → ⊥) × (result ≡ status.Usage → ⊥) × (result ≡ status.Source → ⊥)
-ended_early result (inl e) = (λ f. memory_is_no_yard (sym e ∙ f), λ f. memory_is_no_device (sym e ∙ f), λ f. memory_is_no_usage (sym e ∙ f), λ f. memory_is_no_source (sym e ∙ f))
-ended_early result (inr e) = (λ f. sink_is_no_yard (sym e ∙ f), λ f. sink_is_no_device (sym e ∙ f), λ f. sink_is_no_usage (sym e ∙ f), λ f. sink_is_no_source (sym e ∙ f))
+ended_early : (result : Status) → (result ≡ status.NoMemory) ⊎ (result ≡ status.Sink) → (result ≡ status.Yard → ⊥) × (result ≡ status.Device → ⊥) × (result ≡ status.Usage → ⊥) × (result ≡ status.Source → ⊥) × (result ≡ status.EpochEnd → ⊥)
+ended_early result (inl e) = (λ f. memory_is_no_yard (sym e ∙ f), λ f. memory_is_no_device (sym e ∙ f), λ f. memory_is_no_usage (sym e ∙ f), λ f. memory_is_no_source (sym e ∙ f), λ f. memory_is_no_epoch (sym e ∙ f))
+ended_early result (inr e) = (λ f. sink_is_no_yard (sym e ∙ f), λ f. sink_is_no_device (sym e ∙ f), λ f. sink_is_no_usage (sym e ∙ f), λ f. sink_is_no_source (sym e ∙ f), λ f. sink_is_no_epoch (sym e ∙ f))
+
+neither : (result : Status) → (result ≡ status.NoMemory) ⊎ (result ≡ status.Sink) → result ≢ status.NoMemory → result ≢ status.Sink → ⊥
+neither result (inl e) m s = m e
+neither result (inr e) m s = s e
 
 early_causes : (a c : YardSeen) (path : List ℕ) (result : Status) → (result ≡ status.NoMemory) ⊎ (result ≡ status.Sink) → Causes a c path result
-early_causes a c path result r = let no = ended_early result r in record { yard = λ e. absurd (no.0 e); device = λ e. absurd (no.1 e); no_usage = no.2; no_source = no.3 }
+early_causes a c path result r = let no = ended_early result r in record { yard = λ e. absurd (no.0 e); device = λ e. absurd (no.1 e); quiet = λ nd ns nm. absurd (neither result r nm ns); no_usage = no.2; no_source = no.3; no_epoch = no.4 }
 
 pub causes_of_store : (a b c : YardSeen) (store : StorePlan) (epoch records : ℕ) (entries : List Entry) (result : Status) (p q : Printing) → b.counts ≡ a.counts → a.faults ≤ b.faults → SaysStore b c store epoch records entries result p q → Causes a c store.path result
 causes_of_store a b c store epoch records entries result p q n le (whole passes looks f g h r s) = record {
@@ -164,82 +200,118 @@ causes_of_store a b c store epoch records entries result p q n le (whole passes 
   device = λ e.
       let some : 1 ≤ (counted_of entries looks).faults = some_faults (counted_of entries looks).faults ((counted_of entries looks).corrupt == 0) (sym r ∙ e) in
       let many : 1 ≤ count_by is_unread looks = subst (λ (m : ℕ). 1 ≤ m) (counted_faults entries looks) some in
-      rose_by (arm_faults a.counts store.path) (arm_faults c.counts store.path) (count_by is_unread looks) (rose_same a b c store.path _ (ap (λ (x : Counts). arm_faults x store.path) n) h).rose many;
+      rose_by (arm_faults a.counts store.path) (arm_faults c.counts store.path) (count_by is_unread looks) (rose_by_same a b c store.path _ (ap (λ (x : Counts). arm_faults x store.path) n) h.rose) many;
+  quiet = λ nd ns nm q.
+      let none : (counted_of entries looks).faults ≡ 0 = no_faults (counted_of entries looks).faults ((counted_of entries looks).corrupt == 0) (λ e. nd (r ∙ e)) in
+      h.kept (sym (counted_faults entries looks) ∙ none) q ∙ ap (λ (x : Counts). arm_faults x q) n;
   no_usage = λ e. never_usage ((counted_of entries looks).faults == 0) ((counted_of entries looks).corrupt == 0) (sym r ∙ e);
   no_source = λ e. never_source ((counted_of entries looks).faults == 0) ((counted_of entries looks).corrupt == 0) (sym r ∙ e);
+  no_epoch = λ e. never_epoch ((counted_of entries looks).faults == 0) ((counted_of entries looks).corrupt == 0) (sym r ∙ e);
 }
-causes_of_store a b c store epoch records entries result p q n le (unopened f g r s) = record {
+causes_of_store a b c store epoch records entries result p q n le (unopened f g z r s) = record {
   yard = λ e. rose_earlier a.faults b.faults c.faults le f;
   device = λ e. absurd (yard_is_no_device (sym r ∙ e));
+  quiet = λ nd ns nm q. ap (λ (x : Counts). arm_faults x q) (z ∙ n);
   no_usage = λ e. yard_is_no_usage (sym r ∙ e);
   no_source = λ e. yard_is_no_source (sym r ∙ e);
+  no_epoch = λ e. yard_is_no_epoch (sym r ∙ e);
 }
 causes_of_store a b c store epoch records entries result p q n le (early_none s r) = early_causes a c store.path result r
 causes_of_store a b c store epoch records entries result p q n le (early_line s r) = early_causes a c store.path result r
-causes_of_store a b c store epoch records entries result p q n le (early_blocks m passes looks f g s r) = early_causes a c store.path result r
+causes_of_store a b c store epoch records entries result p q n le (early_blocks m passes looks f g h s r) = early_causes a c store.path result r
+
+counted_one : (b d : Bool) (result : Status) → result ≡ cond b (cond d status.Good status.Corrupt) status.Device → result ≢ status.Good → result ≢ status.Corrupt → result ≢ status.Device → ⊥
+counted_one true true result e g c d = g e
+counted_one true false result e g c d = c e
+counted_one false d result e g c v = v e
+
+-- a store's data was opened with no other status
+pub store_opened : (old new : YardSeen) (store : StorePlan) (epoch records : ℕ) (entries : List Entry) (result : Status) (p q : Printing) → SaysStore old new store epoch records entries result p q
+    → result ≢ status.Good → result ≢ status.Corrupt → result ≢ status.Device → result ≢ status.Yard → result ≢ status.Sink → result ≢ status.NoMemory → ⊥
+store_opened old new store epoch records entries result p q (whole passes looks f g h r s) a b c d e m = counted_one ((counted_of entries looks).faults == 0) ((counted_of entries looks).corrupt == 0) result r a b c
+store_opened old new store epoch records entries result p q (unopened f g z r s) a b c d e m = d r
+store_opened old new store epoch records entries result p q (early_none s r) a b c d e m = neither result r m e
+store_opened old new store epoch records entries result p q (early_line s r) a b c d e m = neither result r m e
+store_opened old new store epoch records entries result p q (early_blocks n passes looks f g h s r) a b c d e m = neither result r m e
 
 -- ---- a journal that isn't recovered
 pub said_no_disk : (a c : YardSeen) (store : StorePlan) (result : Status) (p q : Printing) → SaysOr (cannot_open_text store.journal) status.Yard result p q → Rose a.faults c.faults → (IsTrue a.willing → IsTrue (is_there a.files AtDisk store.journal) → ⊥) → (text : List ℕ) × Says p q text × SaidOfStore a c store text result
 said_no_disk a c store result p q (inl s) r w = (cannot_open_text store.journal, s.1, λ file parameters is told. fault (report (cannot_open_text store.journal) status.Yard) (no_journal_disk store is r w refl) refl s.0)
 said_no_disk a c store result p q (inr s) r w = ([], s.1, λ file parameters is told. still (cut (nothing refl) (inl s.0)))
 
-said_outcome : (a c : YardSeen) (store : StorePlan) (outcome : Outcome) (result : Status) (p q : Printing) → SaysOr (outcome_text store.id outcome) (outcome_status outcome) result p q → outcome_status outcome ≢ status.Good → ((disk : DiskSeen) → kept_at a.disks store.journal ≡ Some disk → (sectors : Sectors) → disk.told ≡ Some sectors → Gives sectors store.id outcome) → (text : List ℕ) × Says p q text × SaidOfStore a c store text result
-said_outcome a c store outcome result p q (inl s) bad gives = (
+said_outcome : (a c : YardSeen) (store : StorePlan) (outcome : Outcome) (result : Status) (p q : Printing) → SaysOr (outcome_text store.id outcome) (outcome_status outcome) result p q → outcome_status outcome ≢ status.Good → (IsTrue a.tells.keeps_disks → kept_at a.disks store.journal ≡ None → ⊥) → ((disk : DiskSeen) → kept_at a.disks store.journal ≡ Some disk → (sectors : Sectors) → disk.told ≡ Some sectors → Gives sectors store.id outcome) → (text : List ℕ) × Says p q text × SaidOfStore a c store text result
+said_outcome a c store outcome result p q (inl s) bad gone gives = (
   outcome_text store.id outcome,
   s.1,
-  λ file parameters is told.
+  λ file parameters is told0.
+      let told = told_there a store gone told0 in
       still (found (report (outcome_text store.id outcome) (outcome_status outcome))
       (refused store told.disk told.sectors outcome is told.kept told.told (gives told.disk told.kept told.sectors told.told) bad refl) refl s.0),
 )
-said_outcome a c store outcome result p q (inr s) bad gives = ([], s.1, λ file parameters is told. still (cut (nothing refl) (inl s.0)))
+said_outcome a c store outcome result p q (inr s) bad gone gives = ([], s.1, λ file parameters is told. still (cut (nothing refl) (inl s.0)))
 
-said_failed : (a c : YardSeen) (store : StorePlan) (result : Status) (p q : Printing) → SaysOr (journal_fault_text store.id.name 0) status.Journal result p q → JournalsStay a.disks c.disks → (IsTrue a.tells.keeps_disks → (disk now : DiskSeen) → kept_at a.disks store.journal ≡ Some disk → kept_at c.disks store.journal ≡ Some now → Rose disk.faults now.faults) → ((disk : DiskSeen) → kept_at a.disks store.journal ≡ Some disk → IsTrue disk.sure → disk.faults < 2 ^ 64 - 1 → ⊥) → (text : List ℕ) × Says p q text × SaidOfStore a c store text result
-said_failed a c store result p q (inl s) stay rose sure = (
+said_failed : (a c : YardSeen) (store : StorePlan) (result : Status) (p q : Printing) → SaysOr (journal_fault_text store.id.name 0) status.Journal result p q → JournalsStay a.disks c.disks → (IsTrue a.tells.keeps_disks → kept_at a.disks store.journal ≡ None → ⊥) → (IsTrue a.tells.keeps_disks → (disk now : DiskSeen) → kept_at a.disks store.journal ≡ Some disk → kept_at c.disks store.journal ≡ Some now → Rose disk.faults now.faults) → ((disk : DiskSeen) → kept_at a.disks store.journal ≡ Some disk → IsTrue disk.sure → disk.faults < 2 ^ 64 - 1 → ⊥) → (text : List ℕ) × Says p q text × SaidOfStore a c store text result
+said_failed a c store result p q (inl s) stay gone rose sure = (
   journal_fault_text store.id.name 0,
   s.1,
-  λ file parameters is told.
+  λ file parameters is told0.
+      let told = told_there a store gone told0 in
       let kept = stay.each store.journal told.disk told.kept in
       fault (report (journal_fault_text store.id.name 0) status.Journal)
       (journal_failed store told.disk kept.0 is told.kept kept.1 (rose told.keeps told.disk kept.0 told.kept kept.1) (sure told.disk told.kept) refl) refl s.0,
 )
-said_failed a c store result p q (inr s) stay rose sure = ([], s.1, λ file parameters is told. still (cut (nothing refl) (inl s.0)))
+said_failed a c store result p q (inr s) stay gone rose sure = ([], s.1, λ file parameters is told. still (cut (nothing refl) (inl s.0)))
+
+journal_is_no_memory : refusal.NoJournal ≡ refusal.NoMemory → ⊥
+journal_is_no_memory e = cc
+
+mismatch_is_no_memory : (other wanted : StoreId) → refusal.Mismatch other wanted ≡ refusal.NoMemory → ⊥
+mismatch_is_no_memory other wanted e = cc
+
+damaged_is_no_memory : (sector : ℕ) (what : Damage) (at : ℕ) → refusal.Damaged sector what at ≡ refusal.NoMemory → ⊥
+damaged_is_no_memory sector what at e = cc
+
+failed_is_no_memory : refusal.Failed ≡ refusal.NoMemory → ⊥
+failed_is_no_memory e = cc
 
 pub said_refused : (a c : YardSeen) (store : StorePlan) (why : RecoverFault) (result : Status) (p q : Printing) → SaysRefusal store.id why result p q → JournalsStay a.disks c.disks
+    → (IsTrue a.tells.keeps_disks → kept_at a.disks store.journal ≡ None → why ≡ refusal.NoMemory)
     → ((disk : DiskSeen) → kept_at a.disks store.journal ≡ Some disk → (sectors : Sectors) → disk.told ≡ Some sectors → Answers sectors store.id (Err why))
     → (why ≡ refusal.Failed → IsTrue a.tells.keeps_disks → (disk now : DiskSeen) → kept_at a.disks store.journal ≡ Some disk → kept_at c.disks store.journal ≡ Some now → Rose disk.faults now.faults)
     → ((disk : DiskSeen) → kept_at a.disks store.journal ≡ Some disk → IsTrue disk.sure → disk.faults < 2 ^ 64 - 1 → why ≡ refusal.Failed → ⊥)
     → (text : List ℕ) × Says p q text × SaidOfStore a c store text result
-said_refused a c store refusal.NoJournal result p q s stay answers rose sure = said_outcome a c store NoJournal result p q s (λ e. cc) answers
-said_refused a c store (refusal.Mismatch other wanted) result p q s stay answers rose sure = said_outcome a c store (Mismatch other) result p q s (λ e. cc) (λ disk k sectors t. (answers disk k sectors t).0)
-said_refused a c store (refusal.Damaged sector what at) result p q s stay answers rose sure = said_outcome a c store (Damaged sector what at) result p q s (λ e. cc) answers
-said_refused a c store refusal.Failed result p q s stay answers rose sure = said_failed a c store result p q s stay (rose refl) (λ disk k u l. sure disk k u l refl)
-said_refused a c store refusal.NoMemory result p q s stay answers rose sure = ([], s.1, λ file parameters is told. still (cut (nothing refl) (inl s.0)))
+said_refused a c store refusal.NoJournal result p q s stay gone answers rose sure = said_outcome a c store NoJournal result p q s (λ e. cc) (λ k n. journal_is_no_memory (gone k n)) answers
+said_refused a c store (refusal.Mismatch other wanted) result p q s stay gone answers rose sure = said_outcome a c store (Mismatch other) result p q s (λ e. cc) (λ k n. mismatch_is_no_memory other wanted (gone k n)) (λ disk k sectors t. (answers disk k sectors t).0)
+said_refused a c store (refusal.Damaged sector what at) result p q s stay gone answers rose sure = said_outcome a c store (Damaged sector what at) result p q s (λ e. cc) (λ k n. damaged_is_no_memory sector what at (gone k n)) answers
+said_refused a c store refusal.Failed result p q s stay gone answers rose sure = said_failed a c store result p q s stay (λ k n. failed_is_no_memory (gone k n)) (rose refl) (λ disk k u l. sure disk k u l refl)
+said_refused a c store refusal.NoMemory result p q s stay gone answers rose sure = ([], s.1, λ file parameters is told. still (cut (nothing refl) (inl s.0)))
 
 -- ---- a parameter file
 pub finds_same : (a b c : YardSeen) (parameters : List ℕ) (made : Report) → b.disks ≡ a.disks → b.contents ≡ a.contents → b.tells ≡ a.tells → ((path : List ℕ) → arm_faults b.counts path ≡ arm_faults a.counts path) → Finds b c parameters made → Finds a c parameters made
 finds_same a b c parameters made d k t n (no_form p q) = no_form p q
 finds_same a b c parameters made d k t n (refused store disk sectors outcome p kept told g bad m) = refused store disk sectors outcome p (ap (λ (x : Kept DiskSeen). kept_at x store.journal) (sym d) ∙ kept) told g bad m
 finds_same a b c parameters made d k t n (verified store disk sectors live records entries passes looks p kept told g f h r m) =
-    verified store disk sectors live records entries passes looks p (ap (λ (x : Kept DiskSeen). kept_at x store.journal) (sym d) ∙ kept) told g (passes_same a b store passes t k f) h (rose_same a b c store.path _ (n store.path) r) m
+    verified store disk sectors live records entries passes looks p (ap (λ (x : Kept DiskSeen). kept_at x store.journal) (sym d) ∙ kept) told g (passes_same a b store passes t k f) h (rose_same a b c store.path _ t n r) m
 
-pub fronts_same : (a b : YardSeen) (parameters text : List ℕ) → b.disks ≡ a.disks → b.contents ≡ a.contents → b.tells ≡ a.tells → Fronts b parameters text → Fronts a parameters text
-fronts_same a b parameters text d k t (nothing e) = nothing e
-fronts_same a b parameters text d k t (recovered store disk sectors live records entries p kept told g m) = recovered store disk sectors live records entries p (ap (λ (x : Kept DiskSeen). kept_at x store.journal) (sym d) ∙ kept) told g m
-fronts_same a b parameters text d k t (verifying store disk sectors live records entries n passes looks p kept told g f h m) =
-    verifying store disk sectors live records entries n passes looks p (ap (λ (x : Kept DiskSeen). kept_at x store.journal) (sym d) ∙ kept) told g (passes_same a b store passes t k f) h m
+pub fronts_same : (a b c : YardSeen) (parameters text : List ℕ) → b.disks ≡ a.disks → b.contents ≡ a.contents → b.tells ≡ a.tells → ((path : List ℕ) → arm_faults b.counts path ≡ arm_faults a.counts path) → Fronts b c parameters text → Fronts a c parameters text
+fronts_same a b c parameters text d k t n (nothing e) = nothing e
+fronts_same a b c parameters text d k t n (recovered store disk sectors live records entries p kept told g m) = recovered store disk sectors live records entries p (ap (λ (x : Kept DiskSeen). kept_at x store.journal) (sym d) ∙ kept) told g m
+fronts_same a b c parameters text d k t n (verifying store disk sectors live records entries l passes looks p kept told g f h r m) =
+    verifying store disk sectors live records entries l passes looks p (ap (λ (x : Kept DiskSeen). kept_at x store.journal) (sym d) ∙ kept) told g (passes_same a b store passes t k f) h (rose_by_same a b c store.path _ (n store.path) r) m
 
-pub journal_told_same : (a b : YardSeen) (store : StorePlan) → b.disks ≡ a.disks → b.tells ≡ a.tells → IsJournalTold a store → IsJournalTold b store
-journal_told_same a b store d t p = record {
+pub journal_told_same : (a b : YardSeen) (store : StorePlan) → b.disks ≡ a.disks → b.tells ≡ a.tells → JournalTold a store → JournalTold b store
+journal_told_same a b store d t (is_missing keeps none) = is_missing (subst (λ (s : Tells). IsTrue s.keeps_disks) (sym t) keeps) (ap (λ (x : Kept DiskSeen). kept_at x store.journal) d ∙ none)
+journal_told_same a b store d t (is_there_told p) = is_there_told (record {
   keeps = subst (λ (s : Tells). IsTrue s.keeps_disks) (sym t) p.keeps;
   disk = p.disk;
   sectors = p.sectors;
   kept = ap (λ (x : Kept DiskSeen). kept_at x store.journal) d ∙ p.kept;
   told = p.told;
-}
+})
 
 still_same : (a b c : YardSeen) (parameters text : List ℕ) (result : Status) → b.disks ≡ a.disks → b.contents ≡ a.contents → b.tells ≡ a.tells → ((path : List ℕ) → arm_faults b.counts path ≡ arm_faults a.counts path) → IsStill b c parameters text result → IsStill a c parameters text result
 still_same a b c parameters text result d k t n (found made f p q) = found made (finds_same a b c parameters made d k t n f) p q
-still_same a b c parameters text result d k t n (cut f r) = cut (fronts_same a b parameters text d k t f) r
+still_same a b c parameters text result d k t n (cut f r) = cut (fronts_same a b c parameters text d k t n f) r
 
 faults_same : (a b c : YardSeen) (file parameters : List ℕ) (made : Report) → b.disks ≡ a.disks → b.tells ≡ a.tells → ((path : List ℕ) → source_faults b.counts path ≡ source_faults a.counts path) → a.faults ≤ b.faults → (IsTrue a.willing → IsTrue b.willing) → StaysThere a.files b.files → Faults b c file parameters made → Faults a c file parameters made
 faults_same a b c file parameters made d t m le w there (no_source r f e) = no_source (rose_earlier a.faults b.faults c.faults le r) (λ x y. f (w x) (there AtSource file y)) e

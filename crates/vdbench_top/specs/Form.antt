@@ -1,5 +1,5 @@
 -- The one form of a parameter file that is read so far.
-use Rattle.std.specs.Prelude.{◌≡◌, ℕ, ◌+◌, ◌-◌, ◌*◌, ◌/◌, Bool, true, false, not, ◌==◌, ◌&&◌, ◌||◌, nat_le, List, [], ◌∷◌, ◌++◌, fold, length, drop, take, Option, Some, None, if◌then◌else◌, codes, decimal}
+use Rattle.std.specs.Prelude.{ℕ, ◌+◌, ◌-◌, ◌*◌, ◌/◌, Bool, not, ◌==◌, ◌&&◌, nat_le, List, [], fold, length, drop, Option, Some, None, if◌then◌else◌, codes, decimal}
 use Rattle.std.specs.List.{before_first, list_all}
 use Rattle.std.specs.Str.{bytes_eq}
 use Rattle.vd_base.specs.Name.{is_store_name, padded}

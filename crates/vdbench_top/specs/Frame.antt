@@ -1,6 +1,5 @@
 -- What a part of a command leaves as it was.
-use Rattle.std.specs.Prelude.{◌≡◌, ℕ, ◌≤◌, ◌<◌, IsTrue, List, Option, Some}
-use Rattle.vd_base.specs.Geometry.{Shape}
+use Rattle.std.specs.Prelude.{◌≡◌, ℕ, ◌≤◌, ◌<◌, IsTrue, List, Some}
 use Rattle.vd_disk.specs.Disk.{DiskSeen}
 use Rattle.plan_types.specs.declared.store.StorePlan.{StorePlan}
 use Rattle.vd_yard.specs.Kept.{Kept, kept_at, bytes_at}

@@ -1,14 +1,12 @@
 -- What recovering a store's journal prints.
 use Rattle.std.specs.Prelude.{◌≡◌, ◌⊎◌, ⊤, ℕ, List, [], length, codes, Result, Ok, Err}
 use Rattle.vd_base.specs.declared.geometry.StoreId.{StoreId}
-use Rattle.key_state.specs.declared.record.Record.{Record}
-use Rattle.key_state.specs.declared.entry.Entry.{Entry}
 use Rattle.journal_layout.specs.declared.damage.Damage.{Damage}
 use Rattle.journal_layout.specs.declared.damage.Damage.TheVariants as damage
 use Rattle.journal_recover.specs.declared.found.Recovered.{Recovered}
 use Rattle.journal_recover.specs.Answers.{Answers}
 use Rattle.vdbench_top.specs.declared.recovery.NotRecovered.{NotRecovered}
-use Rattle.vdbench_top.specs.declared.recovery.NotRecovered.TheVariants as not
+use Rattle.vdbench_top.specs.declared.recovery.NotRecovered.TheVariants as unrecovered
 use Rattle.journal_layout.specs.Recovery.{Outcome, Sectors, NoJournal, Mismatch, Damaged, Recovers}
 use Rattle.run_report.specs.declared.status.Status.{Status}
 use Rattle.run_report.specs.declared.status.Status.TheVariants as status
@@ -43,8 +41,8 @@ outcome_status (Recovers live records entries) = status.Good
 -- what recovering a store's journal answers over these sectors
 abbrev pub AnswersFor : Sectors → StoreId → Result Recovered NotRecovered → Type 0
 AnswersFor sectors id (Ok found) = Answers sectors id (Ok found)
-AnswersFor sectors id (Err not.Yard) = ⊤
-AnswersFor sectors id (Err (not.Refused fault)) = Answers sectors id (Err fault)
+AnswersFor sectors id (Err unrecovered.Yard) = ⊤
+AnswersFor sectors id (Err (unrecovered.Refused fault)) = Answers sectors id (Err fault)
 
 -- A line was said, and the status is the one that goes with it; or memory ran out as it was made, and nothing was said.
 abbrev pub SaysOr : List ℕ → Status → Status → Printing → Printing → Type 0

@@ -1,12 +1,11 @@
 -- The text and the status of a still command, by what it finds.
-use Rattle.std.specs.Prelude.{◌≡◌, ◌≢◌, ◌⊎◌, ℕ, ◌+◌, ◌-◌, ◌^◌, ◌<◌, ◌≤◌, min, Bool, true, false, cond, IsTrue, List, [], ◌++◌, length, take, count_by, Option, Some, None, codes}
+use Rattle.std.specs.Prelude.{◌≡◌, ◌≢◌, ◌⊎◌, ℕ, ◌+◌, ◌-◌, ◌^◌, ◌<◌, min, IsTrue, List, [], ◌++◌, length, take, count_by, Option, Some, None}
 use Rattle.std.specs.Io.KnownBytes.{Appends}
-use Rattle.vd_base.specs.declared.geometry.StoreId.{StoreId}
 use Rattle.vd_outside.specs.Causes.{Rose}
 use Rattle.vd_outside.specs.Streams.{AppendsFront}
 use Rattle.vd_disk.specs.Disk.{DiskSeen}
 use Rattle.vd_arm.specs.Arm.{PassSeen}
-use Rattle.vd_yard.specs.Out.{AtSource, AtDisk, AtArm}
+use Rattle.vd_yard.specs.Out.{AtSource, AtDisk}
 use Rattle.vd_yard.specs.Counts.{source_faults, arm_faults}
 use Rattle.vd_yard.specs.Kept.{kept_at}
 use Rattle.vd_yard.specs.Yard.{YardSeen, is_there, HasFiles}
@@ -14,16 +13,17 @@ use Rattle.plan_types.specs.declared.store.StorePlan.{StorePlan}
 use Rattle.key_state.specs.declared.entry.Entry.{Entry}
 use Rattle.key_state.specs.declared.record.Record.{Record}
 use Rattle.journal_layout.specs.declared.live.Live.{Live}
-use Rattle.journal_layout.specs.Recovery.{Outcome, Gives, Sectors, NoJournal, Mismatch, Damaged, Recovers}
+use Rattle.journal_layout.specs.Recovery.{Outcome, Gives, Sectors, Recovers}
 use Rattle.recover_run.specs.declared.look.Look.{Look}
 use Rattle.recover_run.specs.Looks.{AreLooks, is_unread}
 use Rattle.run_report.specs.declared.status.Status.{Status}
 use Rattle.run_report.specs.declared.status.Status.TheVariants as status
+use Rattle.run_report.specs.Status.{last_text}
 use Rattle.run_report.specs.Says.{Printing, Says}
 use Rattle.run_report.specs.Lines.{form_not_built_text, cannot_open_text, cannot_read_text, journal_text, journal_fault_text}
 use Rattle.vdbench_top.specs.Form.{store_in}
 use Rattle.vdbench_top.specs.Recovery.{outcome_text, outcome_status}
-use Rattle.vdbench_top.specs.Verification.{store_text, lines_of, counted_of, counted_status, ArePassesOf, FaultsRose}
+use Rattle.vdbench_top.specs.Verification.{store_text, lines_of, counted_of, counted_status, ArePassesOf, RoseBy, FaultsRose}
 
 -- the lines of a command but the last, and its status
 pub record Report : Type 0 where
@@ -72,24 +72,24 @@ pub data Faults (old new : YardSeen) (file parameters : List ℕ) (made : Report
       → Faults old new file parameters made
 
 -- The lines that went out before a command ended early: none, or those of a recovered journal and of the first blocks of its store.
-pub data Fronts (old : YardSeen) (parameters text : List ℕ) : Type 0 where
-  nothing : text ≡ [] → Fronts old parameters text
+pub data Fronts (old new : YardSeen) (parameters text : List ℕ) : Type 0 where
+  nothing : text ≡ [] → Fronts old new parameters text
   recovered : (store : StorePlan) (disk : DiskSeen) (sectors : Sectors) (live : Live) (records : List Record) (entries : List Entry)
       → store_in (take 1048577 parameters) ≡ Some store → kept_at old.disks store.journal ≡ Some disk → disk.told ≡ Some sectors
       → Gives sectors store.id (Recovers live records entries)
-      → text ≡ journal_text store.id.name live.epoch (length records) → Fronts old parameters text
+      → text ≡ journal_text store.id.name live.epoch (length records) → Fronts old new parameters text
   verifying : (store : StorePlan) (disk : DiskSeen) (sectors : Sectors) (live : Live) (records : List Record) (entries : List Entry)
       (n : ℕ) (passes : List PassSeen) (looks : List Look)
       → store_in (take 1048577 parameters) ≡ Some store → kept_at old.disks store.journal ≡ Some disk → disk.told ≡ Some sectors
       → Gives sectors store.id (Recovers live records entries) → ArePassesOf old store passes
-      → AreLooks store.id (take n entries) (take n passes) looks
-      → text ≡ journal_text store.id.name live.epoch (length records) ++ lines_of store.id (take n entries) looks → Fronts old parameters text
+      → AreLooks store.id (take n entries) (take n passes) looks → RoseBy old new store.path (count_by is_unread looks)
+      → text ≡ journal_text store.id.name live.epoch (length records) ++ lines_of store.id (take n entries) looks → Fronts old new parameters text
 
 -- What was said of what is found, and the status that it goes with: a whole report, or a front where memory ran out or a write of the
 -- output failed.
 pub data IsStill (old new : YardSeen) (parameters text : List ℕ) (result : Status) : Type 0 where
   found : (made : Report) → Finds old new parameters made → text ≡ made.text → result ≡ made.status → IsStill old new parameters text result
-  cut : Fronts old parameters text → (result ≡ status.NoMemory) ⊎ (result ≡ status.Sink) → IsStill old new parameters text result
+  cut : Fronts old new parameters text → (result ≡ status.NoMemory) ⊎ (result ≡ status.Sink) → IsStill old new parameters text result
 
 -- the same, or the report of an outside call that failed
 pub data IsSaid (old new : YardSeen) (file parameters text : List ℕ) (result : Status) : Type 0 where
@@ -104,10 +104,15 @@ pub record IsJournalTold (yard : YardSeen) (store : StorePlan) : Type 0 where
   pub kept : kept_at yard.disks store.journal ≡ Some disk
   pub told : disk.told ≡ Some sectors
 
--- The yard tells the parameter file, and the journal of the store that it names.
+-- the yard tells of this store's journal: what it has, or that it isn't there
+pub data JournalTold (yard : YardSeen) (store : StorePlan) : Type 0 where
+  is_there_told : IsJournalTold yard store → JournalTold yard store
+  is_missing : IsTrue yard.tells.keeps_disks → kept_at yard.disks store.journal ≡ None → JournalTold yard store
+
+-- The yard tells the parameter file, and of the journal of the store that it names.
 pub record IsTold (yard : YardSeen) (file parameters : List ℕ) : Type 0 where
   pub bytes : yard.tells.bytes file ≡ Some parameters
-  pub journal : (store : StorePlan) → store_in (take 1048577 parameters) ≡ Some store → IsJournalTold yard store
+  pub journal : (store : StorePlan) → store_in (take 1048577 parameters) ≡ Some store → JournalTold yard store
 
 -- What was said of a store whose journal was recovered, and the status that it goes with.
 pub data SaysStore (old new : YardSeen) (store : StorePlan) (epoch records : ℕ) (entries : List Entry) (result : Status) (before now : Printing) : Type 0 where
@@ -115,43 +120,30 @@ pub data SaysStore (old new : YardSeen) (store : StorePlan) (epoch records : ℕ
       → FaultsRose old new store.path (count_by is_unread looks) → result ≡ counted_status (counted_of entries looks)
       → Says before now (journal_text store.id.name epoch records ++ store_text store.id entries looks)
       → SaysStore old new store epoch records entries result before now
-  unopened : Rose old.faults new.faults → (IsTrue old.willing → HasFiles old.files store → ⊥) → result ≡ status.Yard
+  unopened : Rose old.faults new.faults → (IsTrue old.willing → HasFiles old.files store → ⊥) → new.counts ≡ old.counts → result ≡ status.Yard
       → Says before now (journal_text store.id.name epoch records ++ cannot_open_text store.path)
       → SaysStore old new store epoch records entries result before now
   early_none : Says before now [] → (result ≡ status.NoMemory) ⊎ (result ≡ status.Sink) → SaysStore old new store epoch records entries result before now
   early_line : Says before now (journal_text store.id.name epoch records) → (result ≡ status.NoMemory) ⊎ (result ≡ status.Sink)
       → SaysStore old new store epoch records entries result before now
   early_blocks : (n : ℕ) (passes : List PassSeen) (looks : List Look) → ArePassesOf old store passes → AreLooks store.id (take n entries) (take n passes) looks
+      → RoseBy old new store.path (count_by is_unread looks)
       → Says before now (journal_text store.id.name epoch records ++ lines_of store.id (take n entries) looks)
       → (result ≡ status.NoMemory) ⊎ (result ≡ status.Sink) → SaysStore old new store epoch records entries result before now
 
 -- what was said, where the parameter file names this store
 abbrev pub SaidOfStore : YardSeen → YardSeen → StorePlan → List ℕ → Status → Type 0
-SaidOfStore old new store text result = (file parameters : List ℕ) → store_in (take 1048577 parameters) ≡ Some store → IsJournalTold old store → IsSaid old new file parameters text result
+SaidOfStore old new store text result = (file parameters : List ℕ) → store_in (take 1048577 parameters) ≡ Some store → JournalTold old store → IsSaid old new file parameters text result
 
--- A status of the yard or of a device comes only where a count rose; the words and the parameter file have no part in one store's.
+-- A status of the yard or of a device comes only where a count rose, and of a device always where one did; the words and the parameter
+-- file have no part in one store's, and no epoch ends.
 pub record Causes (old new : YardSeen) (path : List ℕ) (result : Status) : Type 0 where
   pub yard : result ≡ status.Yard → Rose old.faults new.faults
   pub device : result ≡ status.Device → Rose (arm_faults old.counts path) (arm_faults new.counts path)
+  pub quiet : result ≢ status.Device → result ≢ status.Sink → result ≢ status.NoMemory → (q : List ℕ) → arm_faults new.counts q ≡ arm_faults old.counts q
   pub no_usage : result ≡ status.Usage → ⊥
   pub no_source : result ≡ status.Source → ⊥
-
--- The last lines of a command. Where a write of the output failed none is written any more.
-abbrev pub last_text : Status → List ℕ
-last_text status.Good = codes "status 0\n"
-last_text status.Corrupt = codes "status 1\n"
-last_text status.Device = codes "status 2\n"
-last_text status.Parameter = codes "status 3\n"
-last_text status.Usage = codes "status 4\n"
-last_text status.Source = codes "status 5\n"
-last_text status.Sink = []
-last_text status.Journal = codes "status 7\n"
-last_text status.NoJournal = codes "status 8\n"
-last_text status.Damaged = codes "status 9\n"
-last_text status.Mismatch = codes "status 10\n"
-last_text status.Yard = codes "status 12\n"
-last_text status.EpochEnd = codes "status 13\n"
-last_text status.NoMemory = codes "no memory\nstatus 20\n"
+  pub no_epoch : result ≡ status.EpochEnd → ⊥
 
 -- How a command ends that had to say this text and its last lines: all was added and the status is its own, or a front was added and
 -- the status is that of a failed output.
@@ -168,13 +160,15 @@ pub record IsHonest (old new : YardSeen) (file parameters : List ℕ) : Type 0 w
       ⊎ (IsTrue old.willing × IsTrue (is_there old.files AtSource file)
       × ((store : StorePlan) → store_in (take 1048577 parameters) ≡ Some store → IsTrue (is_there old.files AtDisk store.journal) × HasFiles old.files store))
 
--- A status of the yard or of a device comes only where a count rose.
+-- A status of the yard or of a device comes only where a count rose, and of a device always where one did. No epoch ends.
 pub record Caused (old new : YardSeen) (result : Status) : Type 0 where
   pub yard : result ≡ status.Yard → Rose old.faults new.faults
   pub device : result ≡ status.Device → (path : List ℕ) × Rose (arm_faults old.counts path) (arm_faults new.counts path)
+  pub quiet : result ≢ status.Device → result ≢ status.Sink → result ≢ status.NoMemory → (q : List ℕ) → arm_faults new.counts q ≡ arm_faults old.counts q
   pub no_usage : result ≡ status.Usage → ⊥
+  pub no_epoch : result ≡ status.EpochEnd → ⊥
 
 -- what was said over parameters of these bytes
 abbrev pub SaidOfBytes : YardSeen → YardSeen → List ℕ → List ℕ → Status → Type 0
 SaidOfBytes old new bytes text result =
-    (file parameters : List ℕ) → bytes ≡ take 1048577 parameters → ((store : StorePlan) → store_in bytes ≡ Some store → IsJournalTold old store) → IsSaid old new file parameters text result
+    (file parameters : List ℕ) → bytes ≡ take 1048577 parameters → ((store : StorePlan) → store_in bytes ≡ Some store → JournalTold old store) → IsSaid old new file parameters text result

@@ -15,6 +15,7 @@ use Rattle.run_report.specs.declared.status.Status.TheVariants as status
 use Rattle.run_report.specs.Findings.{finding_text, verified_text}
 use Rattle.run_report.specs.Says.{Printing, Says}
 use Rattle.vd_yard.specs.Counts.{arm_faults}
+use Rattle.vd_yard.specs.Out.{AtArm}
 use Rattle.vd_yard.specs.Kept.{bytes_at}
 use Rattle.vd_yard.specs.Contents.{AreBlocks, TellFile}
 use Rattle.vd_yard.specs.Yard.{YardSeen}
@@ -60,14 +61,20 @@ pub record ArePassesOf (old : YardSeen) (store : StorePlan) (passes : List PassS
   pub blocks : AreBlocks store.id.geometry passes
   pub told : IsTrue old.tells.keeps_contents → TellFile store.id.geometry (bytes_at old.contents store.path) passes
 
--- The path's arm faults rose by at least so many, and only where there is one.
+-- the path's count of arm faults rose by at least so many
+abbrev pub RoseBy : YardSeen → YardSeen → List ℕ → ℕ → Type 0
+RoseBy old new path unread = min (arm_faults old.counts path + unread) (2 ^ 64 - 1) ≤ arm_faults new.counts path
+
+-- What the looks left of the counts of arm faults: the path's rose by at least so many as there are blocks that couldn't be read. Where
+-- there is none, or the path's arms are sure, all paths' stayed.
 pub record FaultsRose (old new : YardSeen) (path : List ℕ) (unread : ℕ) : Type 0 where
-  pub rose : min (arm_faults old.counts path + unread) (2 ^ 64 - 1) ≤ arm_faults new.counts path
-  pub kept : unread ≡ 0 → arm_faults new.counts path ≡ arm_faults old.counts path
+  pub rose : RoseBy old new path unread
+  pub kept : unread ≡ 0 → (q : List ℕ) → arm_faults new.counts q ≡ arm_faults old.counts q
+  pub sure : IsTrue (old.tells.sure AtArm path) → (q : List ℕ) → arm_faults new.counts q ≡ arm_faults old.counts q
 
 -- How far a verification came that ended early: the lines of the first blocks were said, or none was begun.
-pub data CameSoFar (old : YardSeen) (store : StorePlan) (entries : List Entry) (before now : Printing) : Type 0 where
-  not_begun : Says before now [] → CameSoFar old store entries before now
+pub data CameSoFar (old new : YardSeen) (store : StorePlan) (entries : List Entry) (before now : Printing) : Type 0 where
+  not_begun : Says before now [] → CameSoFar old new store entries before now
   begun : (n : ℕ) (passes : List PassSeen) (looks : List Look) → ArePassesOf old store passes
-      → AreLooks store.id (take n entries) (take n passes) looks
-      → Says before now (lines_of store.id (take n entries) looks) → CameSoFar old store entries before now
+      → AreLooks store.id (take n entries) (take n passes) looks → RoseBy old new store.path (count_by is_unread looks)
+      → Says before now (lines_of store.id (take n entries) looks) → CameSoFar old new store entries before now

@@ -3,7 +3,7 @@
 /// What a command does.
 #[derive(Clone, Copy, Debug, PartialEq, Eq, Drop)]
 pub enum Mode {
-    /// Recovers each journal, verifies each store, and changes nothing: `-jro`.
+    /// Recovers each journal and verifies each store. No journal and no block's bytes change: `-jro`.
     RecoverOnly,
 }
 

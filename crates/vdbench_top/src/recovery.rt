@@ -1,5 +1,6 @@
 // Recovering the journal of one store.
-ghost use Rattle.std.specs.Prelude.{◌≡◌, ◌≤◌, ◌<◌, ◌-◌, ◌^◌, IfOk, IsErrOf, Some, IsTrue, length};
+ghost use Rattle.std.specs.Prelude.{◌≡◌, ◌≤◌, ◌<◌, ◌-◌, ◌^◌, IfOk, OnOk, IsErrOf, Some, None, IsTrue, length};
+ghost use Rattle.journal_recover.specs.declared.fault.RecoverFault.{RecoverFault as AFault};
 ghost use Rattle.vd_outside.specs.Causes.{Rose};
 ghost use Rattle.vd_disk.specs.Disk.{DiskSeen, WhenTold};
 ghost use Rattle.vd_yard.specs.Out.{AtDisk};
@@ -37,10 +38,14 @@ pub fn recover_store<Y: Yard>(
     ensures journals { JournalsStay (Y.seen yard.old).disks (Y.seen yard.new).disks }
     ensures recovers { (disk : DiskSeen) → kept_at (Y.seen yard.old).disks store.now.journal ≡ Some disk →
         WhenTold disk.told (λ sectors. AnswersFor sectors store.now.id result) }
+    ensures absent { IsTrue (Y.seen yard.old).tells.keeps_disks → kept_at (Y.seen yard.old).disks store.now.journal ≡ None → OnOk result ⊥ }
+    ensures absent_refused { IsTrue (Y.seen yard.old).tells.keeps_disks → kept_at (Y.seen yard.old).disks store.now.journal ≡ None →
+        (fault : AFault) → IsErrOf result (NotRecovered.Refused fault) → fault ≡ RecoverFault.NoMemory }
     ensures id { IfOk result (λ found. found.live.id ≡ store.now.id) }
     ensures one_each { IfOk result (λ found. length found.entries.items ≡ store.now.id.geometry.blocks) }
     ensures valid { IfOk result (λ found. AreEntries found.entries.items) }
     ensures yard_fault { IsErrOf result NotRecovered.Yard → Rose (Y.seen yard.old).faults (Y.seen yard.new).faults }
+    ensures yard_quiet { (IsErrOf result NotRecovered.Yard → ⊥) → (Y.seen yard.new).faults ≡ (Y.seen yard.old).faults }
     ensures willing { IsTrue (Y.seen yard.old).willing → IsTrue (is_there (Y.seen yard.old).files AtDisk store.now.journal) →
         IsErrOf result NotRecovered.Yard → ⊥ }
     ensures disk_fault { IsErrOf result (NotRecovered.Refused RecoverFault.Failed) → IsTrue (Y.seen yard.old).tells.keeps_disks →

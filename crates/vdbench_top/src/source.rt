@@ -65,7 +65,7 @@ pub fn read_file<Y: Yard>(alloc: Global, yard: &mut Y, path: &Text) -> Result<Ve
         Rose (source_faults (Y.seen yard.old).counts path.now) (source_faults (Y.seen yard.new).counts path.now) }
     ensures quiet { OnOk result ((q : List ℕ) → source_faults (Y.seen yard.new).counts q ≡ source_faults (Y.seen yard.old).counts q) }
     ensures quiet_yard { IsErrOf result Unread.Yard → (q : List ℕ) → source_faults (Y.seen yard.new).counts q ≡ source_faults (Y.seen yard.old).counts q }
-    ensures yard_quiet { OnOk result ((Y.seen yard.new).faults ≡ (Y.seen yard.old).faults) }
+    ensures yard_quiet { (IsErrOf result Unread.Yard → ⊥) → (Y.seen yard.new).faults ≡ (Y.seen yard.old).faults }
     ensures sure { IsTrue ((Y.seen yard.old).tells.sure AtSource path.now) → IsErrOf result Unread.Source → ⊥ }
 {
     let mut source = match yard.source(path) {

@@ -20,8 +20,8 @@ use journal_recover::{RecoverFault, Recovered};
 use plan_types::StorePlan;
 use run_report::{
     Printer, Status, Verified, cannot_open_line, cannot_read_line, damaged_line,
-    form_not_built_line, journal_fault_line, journal_line, mismatch_line, no_journal_line,
-    usage_line,
+    form_not_built_line, journal_fault_line, journal_line, last_lines, mismatch_line,
+    no_journal_line, usage_line,
 };
 use std::alloc::Global;
 use vd_base::StoreId;
@@ -132,6 +132,7 @@ fn run_recovered<Y: Yard, S: Sink>(
     ensures blocks { BlocksStay store.now (Y.seen yard.old).contents (Y.seen yard.new).contents }
     ensures said { SaysStore (Y.seen yard.old) (Y.seen yard.new) store.now found.now.live.epoch found.now.records found.now.entries.items result
         (printing printer.old.failed (S.taken out.old) (S.faults out.old)) (printing printer.new.failed (S.taken out.new) (S.faults out.new)) }
+    ensures yard_quiet { result ≢ Status.Yard → result ≢ Status.NoMemory → (Y.seen yard.new).faults ≡ (Y.seen yard.old).faults }
     ensures output { result ≡ Status.Sink → printer.new.failed ≡ true }
 {
     let Ok(line) = journal_line(alloc, &store.id.name, found.live.epoch, found.records) else {
@@ -170,6 +171,9 @@ fn run_store<Y: Yard, S: Sink>(
         × Says (printing printer.old.failed (S.taken out.old) (S.faults out.old)) (printing printer.new.failed (S.taken out.new) (S.faults out.new)) text
         × SaidOfStore (Y.seen yard.old) (Y.seen yard.new) store.now text result }
     ensures causes { Causes (Y.seen yard.old) (Y.seen yard.new) store.now.path result }
+    ensures untouched { result ≢ Status.Good → result ≢ Status.Corrupt → result ≢ Status.Device → result ≢ Status.Yard → result ≢ Status.Sink →
+        result ≢ Status.NoMemory → (Y.seen yard.new).contents ≡ (Y.seen yard.old).contents }
+    ensures yard_quiet { result ≢ Status.Yard → result ≢ Status.NoMemory → (Y.seen yard.new).faults ≡ (Y.seen yard.old).faults }
     ensures output { result ≡ Status.Sink → printer.new.failed ≡ true }
 {
     match recover_store(alloc, yard, store) {
@@ -197,12 +201,17 @@ fn run_parameters<Y: Yard, S: Sink>(
     ensures keeps { Keeps (Y.seen yard.old) (Y.seen yard.new) }
     ensures journals { JournalsStay (Y.seen yard.old).disks (Y.seen yard.new).disks }
     ensures sources { (q : List ℕ) → source_faults (Y.seen yard.new).counts q ≡ source_faults (Y.seen yard.old).counts q }
+    ensures contents { ((Y.seen yard.new).contents ≡ (Y.seen yard.old).contents)
+        ⊎ ((store : AStore) × BlocksStay store (Y.seen yard.old).contents (Y.seen yard.new).contents) }
     ensures blocks { (store : AStore) → store_in bytes.now ≡ Some store → BlocksStay store (Y.seen yard.old).contents (Y.seen yard.new).contents }
     ensures said { (text : List ℕ)
         × Says (printing printer.old.failed (S.taken out.old) (S.faults out.old)) (printing printer.new.failed (S.taken out.new) (S.faults out.new)) text
         × SaidOfBytes (Y.seen yard.old) (Y.seen yard.new) bytes.now text result }
     ensures causes { Caused (Y.seen yard.old) (Y.seen yard.new) result }
     ensures no_source { result ≡ Status.Source → ⊥ }
+    ensures untouched { result ≢ Status.Good → result ≢ Status.Corrupt → result ≢ Status.Device → result ≢ Status.Yard → result ≢ Status.Sink →
+        result ≢ Status.NoMemory → (Y.seen yard.new).contents ≡ (Y.seen yard.old).contents }
+    ensures yard_quiet { result ≢ Status.Yard → result ≢ Status.NoMemory → (Y.seen yard.new).faults ≡ (Y.seen yard.old).faults }
     ensures output { result ≡ Status.Sink → printer.new.failed ≡ true }
 {
     match store_of_bytes(alloc, bytes) {
@@ -216,7 +225,8 @@ fn run_parameters<Y: Yard, S: Sink>(
 }
 
 ghost use Rattle.plan_types.specs.declared.store.StorePlan.{StorePlan as AStore};
-ghost use Rattle.vdbench_top.specs.Still.{SaidOfBytes, Caused, IsHonest, IsStill, Ends, last_text};
+ghost use Rattle.vdbench_top.specs.Still.{SaidOfBytes, Caused, IsHonest, IsStill, Ends};
+ghost use Rattle.run_report.specs.Status.{last_text};
 
 /// A command over a parameter file.
 fn run_file<Y: Yard, S: Sink>(
@@ -228,6 +238,8 @@ fn run_file<Y: Yard, S: Sink>(
 ) -> Status
     ensures keeps { Keeps (Y.seen yard.old) (Y.seen yard.new) }
     ensures journals { JournalsStay (Y.seen yard.old).disks (Y.seen yard.new).disks }
+    ensures contents { ((Y.seen yard.new).contents ≡ (Y.seen yard.old).contents)
+        ⊎ ((store : AStore) × BlocksStay store (Y.seen yard.old).contents (Y.seen yard.new).contents) }
     ensures blocks { (parameters : List ℕ) (store : AStore) → (Y.seen yard.old).tells.bytes file.now ≡ Some parameters →
         store_in (take 1048577 parameters) ≡ Some store → BlocksStay store (Y.seen yard.old).contents (Y.seen yard.new).contents }
     ensures said { (text : List ℕ)
@@ -237,6 +249,9 @@ fn run_file<Y: Yard, S: Sink>(
     ensures source { result ≡ Status.Source → Rose (source_faults (Y.seen yard.old).counts file.now) (source_faults (Y.seen yard.new).counts file.now) }
     ensures source_quiet { result ≢ Status.Source → result ≢ Status.NoMemory → (q : List ℕ) →
         source_faults (Y.seen yard.new).counts q ≡ source_faults (Y.seen yard.old).counts q }
+    ensures untouched { result ≢ Status.Good → result ≢ Status.Corrupt → result ≢ Status.Device → result ≢ Status.Yard → result ≢ Status.Sink →
+        result ≢ Status.NoMemory → (Y.seen yard.new).contents ≡ (Y.seen yard.old).contents }
+    ensures yard_quiet { result ≢ Status.Yard → result ≢ Status.NoMemory → (Y.seen yard.new).faults ≡ (Y.seen yard.old).faults }
     ensures output { result ≡ Status.Sink → printer.new.failed ≡ true }
 {
     match read_file(alloc, yard, file) {
@@ -249,28 +264,6 @@ fn run_file<Y: Yard, S: Sink>(
             out,
         ),
         Err(Unread::NoMemory) => Status::NoMemory,
-    }
-}
-
-/// The last lines of a command. They take no memory.
-fn last_lines(status: Status) -> &'static str
-    ensures { result.now ≡ last_text status }
-{
-    match status {
-        Status::Good => "status 0\n",
-        Status::Corrupt => "status 1\n",
-        Status::Device => "status 2\n",
-        Status::Parameter => "status 3\n",
-        Status::Usage => "status 4\n",
-        Status::Source => "status 5\n",
-        Status::Sink => "",
-        Status::Journal => "status 7\n",
-        Status::NoJournal => "status 8\n",
-        Status::Damaged => "status 9\n",
-        Status::Mismatch => "status 10\n",
-        Status::Yard => "status 12\n",
-        Status::EpochEnd => "status 13\n",
-        Status::NoMemory => "no memory\nstatus 20\n",
     }
 }
 
@@ -287,26 +280,37 @@ fn end<S: Sink>(status: Status, printer: &mut Printer, out: &mut S) -> Status
     status
 }
 
-/// A still command: it recovers the journal of the store that its parameter file names, verifies the store, prints what is found, and
-/// changes nothing. `words` are those after the program's name. It answers the status that the command ends with.
+/// A still command: it recovers the journal of the store that its parameter file names, verifies the store, and prints what is found. It
+/// writes no journal, and no block's bytes change. `words` are those after the program's name. It answers the status that the command
+/// ends with.
 pub fn vdbench_still<Y: Yard, S: Sink>(
     alloc: Global,
     words: &[String],
     yard: &mut Y,
     out: &mut S,
 ) -> Status
-    // On every way out nothing of this call is out, and journals are as they were.
-    ensures nothing_out { (Y.seen yard.new).out ≡ (Y.seen yard.old).out }
+    // On every way out nothing of this call is out, and no journal is written.
+    ensures keeps { Keeps (Y.seen yard.old) (Y.seen yard.new) }
     ensures journals { JournalsStay (Y.seen yard.old).disks (Y.seen yard.new).disks }
 
-    // So is each block of the store.
+    // At most one path's data is touched, none with a status that comes before it is opened, and each block of a store there has the
+    // bytes that it had: that of the told parameter file.
+    ensures contents { ((Y.seen yard.new).contents ≡ (Y.seen yard.old).contents)
+        ⊎ ((store : AStore) × BlocksStay store (Y.seen yard.old).contents (Y.seen yard.new).contents) }
+    ensures untouched { result ≢ Status.Good → result ≢ Status.Corrupt → result ≢ Status.Device → result ≢ Status.Yard → result ≢ Status.Sink →
+        result ≢ Status.NoMemory → (Y.seen yard.new).contents ≡ (Y.seen yard.old).contents }
     ensures blocks { (file parameters : List ℕ) (store : AStore) → file_of (map string_bytes words.now) ≡ Some file →
         (Y.seen yard.old).tells.bytes file ≡ Some parameters → store_in (take 1048577 parameters) ≡ Some store →
         BlocksStay store (Y.seen yard.old).contents (Y.seen yard.new).contents }
 
     // Words that are no command print the usage, and nothing else ends so.
     ensures usage { command_said (map string_bytes words.now) ≡ None → Ends usage_text Status.Usage result (S.taken out.old) (S.taken out.new) }
+    ensures usage_still { command_said (map string_bytes words.now) ≡ None → Y.seen yard.new ≡ Y.seen yard.old }
     ensures usage_only { result ≡ Status.Usage → command_said (map string_bytes words.now) ≡ None }
+
+    // It ends by the lines of its status, whatever it had to say before; none is that an epoch ended.
+    ensures ends { (text : List ℕ) × (said : AStatus) × Ends text said result (S.taken out.old) (S.taken out.new) }
+    ensures no_epoch { result ≡ Status.EpochEnd → ⊥ }
 
     // Where the parameter file and the journal are told, the text and the status are those of what is found, or of the outside call
     // that failed.
@@ -322,11 +326,14 @@ pub fn vdbench_still<Y: Yard, S: Sink>(
 
     // Each status of an outside fault has its cause, over whatever yard and output.
     ensures yard_fault { result ≡ Status.Yard → Rose (Y.seen yard.old).faults (Y.seen yard.new).faults }
+    ensures yard_quiet { result ≢ Status.Yard → result ≢ Status.Sink → result ≢ Status.NoMemory → (Y.seen yard.new).faults ≡ (Y.seen yard.old).faults }
     ensures source_fault { result ≡ Status.Source → (file : List ℕ) → file_of (map string_bytes words.now) ≡ Some file →
         Rose (source_faults (Y.seen yard.old).counts file) (source_faults (Y.seen yard.new).counts file) }
     ensures source_quiet { result ≢ Status.Source → result ≢ Status.Sink → result ≢ Status.NoMemory → (path : List ℕ) →
         source_faults (Y.seen yard.new).counts path ≡ source_faults (Y.seen yard.old).counts path }
     ensures device_fault { result ≡ Status.Device → (path : List ℕ) × Rose (arm_faults (Y.seen yard.old).counts path) (arm_faults (Y.seen yard.new).counts path) }
+    ensures device_quiet { result ≢ Status.Device → result ≢ Status.Sink → result ≢ Status.NoMemory → (path : List ℕ) →
+        arm_faults (Y.seen yard.new).counts path ≡ arm_faults (Y.seen yard.old).counts path }
     ensures sink_fault { result ≡ Status.Sink → Rose (S.faults out.old) (S.faults out.new) }
     ensures sink_quiet { result ≢ Status.Sink → S.faults out.new ≡ S.faults out.old }
 {

@@ -1,5 +1,5 @@
 // Verifying one store.
-ghost use Rattle.std.specs.Prelude.{◌≡◌, ◌≤◌, ◌<◌, ◌+◌, ◌^◌, List, ℕ, Bool, true, IfOk, OnErr, IsErrOf, IsTrue, length, map, take, count_by, slice_get, Some};
+ghost use Rattle.std.specs.Prelude.{◌≡◌, ◌≤◌, ◌<◌, ◌+◌, ◌^◌, ◌-◌, min, List, ℕ, Bool, true, IfOk, OnErr, IsErrOf, IsTrue, length, map, take, count_by, slice_get, Some};
 ghost use Rattle.vd_arm.specs.Arm.{PassSeen};
 ghost use Rattle.key_state.specs.Entries.{AreEntries};
 ghost use Rattle.block_verdict.specs.declared.finding.Finding.{Finding as AFinding};
@@ -235,6 +235,7 @@ fn verify_blocks<A: Arm, S: Sink>(
         (lines_of store.now entries.now looks)) }
     ensures front { OnErr result ((n : ℕ) × (looks : List ALook)
         × AreLooks store.now (take n entries.now) (take n (map A.Pass.seen passes.now)) looks
+        × (min ((A.seen arm.old).faults + count_by is_unread_look looks) (2 ^ 64 - 1) ≤ (A.seen arm.new).faults)
         × Says (printing printer.old.failed (S.taken out.old) (S.faults out.old)) (printing printer.new.failed (S.taken out.new) (S.faults out.new))
         (lines_of store.now (take n entries.now) looks)) }
     ensures later { (A.seen arm.old).faults ≤ (A.seen arm.new).faults }
@@ -304,6 +305,7 @@ fn verify_through<A: Arm, S: Sink>(
         (store_text store.now entries.now looks)) }
     ensures front { OnErr result ((n : ℕ) × (looks : List ALook)
         × AreLooks store.now (take n entries.now) (take n (map A.Pass.seen passes.now)) looks
+        × (min ((A.seen arm.old).faults + count_by is_unread_look looks) (2 ^ 64 - 1) ≤ (A.seen arm.new).faults)
         × Says (printing printer.old.failed (S.taken out.old) (S.faults out.old)) (printing printer.new.failed (S.taken out.new) (S.faults out.new))
         (lines_of store.now (take n entries.now) looks)) }
     ensures later { (A.seen arm.old).faults ≤ (A.seen arm.new).faults }
@@ -322,7 +324,7 @@ fn verify_through<A: Arm, S: Sink>(
 }
 
 /// Opens a store's passes and an arm, verifies all its blocks, prints their findings and the line that ends them, and gives back what it opened.
-#[tactic(auto, using(vd_yard::specs::Out::one_more_here, vd_yard::specs::Out::one_more_cancel, vd_yard::specs::Out::one_more_swap, vd_yard::specs::Counts::arm_faults_here, vd_yard::specs::Counts::arm_faults_grow, vd_yard::specs::Counts::source_faults_of_arm, crate::proofs::Frames::blocks_same))]
+#[tactic(auto, using(vd_yard::specs::Out::one_more_here, vd_yard::specs::Out::one_more_cancel, vd_yard::specs::Out::one_more_swap, vd_yard::specs::Counts::arm_faults_here, vd_yard::specs::Counts::arm_faults_grow, vd_yard::specs::Counts::arm_faults_none, vd_yard::specs::Counts::source_faults_of_arm, crate::proofs::Frames::blocks_same))]
 pub fn verify_store<Y: Yard, S: Sink>(
     alloc: Global,
     yard: &mut Y,
@@ -344,10 +346,11 @@ pub fn verify_store<Y: Yard, S: Sink>(
         × FaultsRose (Y.seen yard.old) (Y.seen yard.new) store.now.path (count_by is_unread_look looks)
         × Says (printing printer.old.failed (S.taken out.old) (S.faults out.old)) (printing printer.new.failed (S.taken out.new) (S.faults out.new))
         (store_text store.now.id entries.now looks)) }
-    ensures front { OnErr result (CameSoFar (Y.seen yard.old) store.now entries.now
+    ensures front { OnErr result (CameSoFar (Y.seen yard.old) (Y.seen yard.new) store.now entries.now
         (printing printer.old.failed (S.taken out.old) (S.faults out.old)) (printing printer.new.failed (S.taken out.new) (S.faults out.new))) }
     ensures unopened { IsErrOf result NotVerified.Yard → (Rose (Y.seen yard.old).faults (Y.seen yard.new).faults)
         × (printer.new ≡ printer.old) × (out.new ≡ out.old) × ((Y.seen yard.new).counts ≡ (Y.seen yard.old).counts) }
+    ensures yard_quiet { (IsErrOf result NotVerified.Yard → ⊥) → (Y.seen yard.new).faults ≡ (Y.seen yard.old).faults }
     ensures willing { IsTrue (Y.seen yard.old).willing → HasFiles (Y.seen yard.old).files store.now → IsErrOf result NotVerified.Yard → ⊥ }
     ensures output { IsErrOf result NotVerified.Output → printer.new.failed ≡ true }
 {

@@ -1,7 +1,5 @@
-use Rattle.std.proofs.Common.{◌≡◌, ◌+◌, ◌<◌, ◌≤◌, ℕ, length, map, take, arith, rules, refl, sym, ap, ◌∙◌, subst, List, [], ◌∷◌, ◌++◌}
+use Rattle.std.proofs.Common.{◌≡◌, ◌<◌, ℕ, length, map, arith, rules, ap, ◌∙◌, [], ◌∷◌, ◌++◌}
 use Rattle.std.proofs.lemmas.List.{length-map}
-use Rattle.recover_run.specs.declared.look.Look.{Look}
-use Rattle.recover_run.specs.Part.{Called, Verifies}
 use Rattle.recover_run.proofs.Looking.{verifies_none, verifies_more, called_none, called_then, valid_at, block_at, size_at, mapped_at}
 use Rattle.recover_run.proofs.part.verify_part.Goals as goal
 

@@ -1,4 +1,4 @@
-use Rattle.std.proofs.Common.{◌≡◌, ◌≤◌, ◌+◌, ◌-◌, List, length, take, map, vec_len, vec_capacity}
+use Rattle.std.proofs.Common.{◌≤◌, ◌+◌, ◌-◌, List, length, take, map, vec_len, vec_capacity}
 use Rattle.recover_run.specs.declared.look.Look.{Look}
 use Rattle.recover_run.specs.Part.{Called, Verifies}
 use Rattle.recover_run.proofs.part.verify_part.Given as goal

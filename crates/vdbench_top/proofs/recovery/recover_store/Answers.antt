@@ -1,4 +1,3 @@
-use Rattle.std.proofs.Common.{◌≡◌}
 use Rattle.vdbench_top.proofs.Frames.{journals_stay}
 use Rattle.vdbench_top.proofs.recovery.recover_store.Goals as goal
 

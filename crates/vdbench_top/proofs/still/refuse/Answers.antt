@@ -1,4 +1,3 @@
-use Rattle.std.proofs.Common.{◌≡◌}
 use Rattle.vdbench_top.proofs.Stores.{says_or}
 use Rattle.vdbench_top.proofs.still.refuse.Goals as goal
 

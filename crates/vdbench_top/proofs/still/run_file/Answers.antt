@@ -1,7 +1,7 @@
-use Rattle.std.proofs.Common.{◌≡◌, ◌∙◌, refl, sym, ap, inl, []}
+use Rattle.std.proofs.Common.{◌∙◌, refl, inl, []}
 use Rattle.run_report.specs.Says.{says_none}
 use Rattle.vdbench_top.specs.Still.{still, cut, nothing}
-use Rattle.vdbench_top.proofs.Frames.{journals_same}
+use Rattle.vdbench_top.proofs.Frames.{journals_same, contents_along}
 use Rattle.vdbench_top.proofs.Stores.{says_or}
 use Rattle.vdbench_top.proofs.Tellings.{said_of_file, said_no_source, said_source_failed}
 use Rattle.vdbench_top.proofs.still.run_file.Goals as goal
@@ -30,3 +30,6 @@ returns-in-Err-NoMemory-clause-journals g c = journals_same _ _ c.read_file.ensu
 
 pub returns-in-Err-NoMemory-clause-said : goal.returns-in-Err-NoMemory-clause-said
 returns-in-Err-NoMemory-clause-said g c = ([], says_none _, λ parameters told. still (cut (nothing refl) (inl refl)))
+
+pub returns-in-Ok-clause-contents : goal.returns-in-Ok-clause-contents
+returns-in-Ok-clause-contents g c = contents_along _ _ _ c.read_file.ensures.contents c.run_parameters.ensures.contents

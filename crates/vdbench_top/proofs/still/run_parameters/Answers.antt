@@ -1,4 +1,4 @@
-use Rattle.std.proofs.Common.{◌≡◌, ◌∙◌, refl, sym, ap, inl, []}
+use Rattle.std.proofs.Common.{◌∙◌, refl, sym, inl, []}
 use Rattle.run_report.specs.Says.{says_none}
 use Rattle.vdbench_top.specs.Still.{still, cut, nothing}
 use Rattle.vdbench_top.proofs.Tellings.{said_no_form, said_of_store}

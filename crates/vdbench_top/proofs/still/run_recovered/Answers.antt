@@ -1,4 +1,4 @@
-use Rattle.std.proofs.Common.{◌≡◌, ◌∙◌, refl, ap, inl, inr}
+use Rattle.std.proofs.Common.{◌∙◌, refl, ap, inl, inr}
 use Rattle.run_report.specs.Says.{says_along}
 use Rattle.vdbench_top.proofs.Stores.{whole_store, unopened_store, early_store}
 use Rattle.vdbench_top.proofs.still.run_recovered.Goals as goal
@@ -11,7 +11,7 @@ returns-in-Ok-verify_store-clause-said g c =
 pub returns-in-Err-Yard-clause-said : goal.returns-in-Err-Yard-clause-said
 returns-in-Err-Yard-clause-said g c =
     let u = c.in-Err-Yard.ensures.unopened (cc c.in-Err-Yard.field-0-is) in
-    unopened_store _ _ _ _ _ _ _ _ _ _ _ _ _ _ _ _ (ap (λ p. p.failed) u.1) (ap g.S.Sink.taken u.2) (ap g.S.Sink.faults u.2) c.cannot_open_line.ensures c.say_line.ensures (says_along _ _ _ _ (c.as_str.ensures ∙ c.in-Ok.ensures) c.say.ensures.says) u.0 (λ w h. c.in-Err-Yard.ensures.willing w h (cc c.in-Err-Yard.field-0-is))
+    unopened_store _ _ _ _ _ _ _ _ _ _ _ _ _ _ _ _ (ap (λ p. p.failed) u.1) (ap g.S.Sink.taken u.2) (ap g.S.Sink.faults u.2) c.cannot_open_line.ensures c.say_line.ensures (says_along _ _ _ _ (c.as_str.ensures ∙ c.in-Ok.ensures) c.say.ensures.says) u.0 (λ w h. c.in-Err-Yard.ensures.willing w h (cc c.in-Err-Yard.field-0-is)) u.3
 
 pub returns-in-Err-Output-clause-said : goal.returns-in-Err-Output-clause-said
 returns-in-Err-Output-clause-said g c =

@@ -1,4 +1,4 @@
-use Rattle.std.proofs.Common.{◌≡◌, ◌∙◌, List, ℕ, refl, sym, ap, inl, []}
+use Rattle.std.proofs.Common.{refl, inl, []}
 use Rattle.run_report.specs.declared.status.Status.TheVariants as status
 use Rattle.run_report.specs.Lines.{usage_text}
 use Rattle.run_report.specs.Says.{says_none, says_along}
@@ -48,5 +48,27 @@ returns-clause-answer g c file parameters is told h =
       v.0,
       c.run_file-status.result,
       honest _ _ file parameters v.0 _ h (told_along _ _ file _ parameters v.0 _ same told v.2),
+      ends_by _ _ _ v.0 _ _ v.1 c.end-2.ensures.says c.end-2.ensures.failed c.end-2.ensures.good c.run_file-status.ensures.output,
+    )
+
+pub returns-in_default-clause-ends : goal.returns-in_default-clause-ends
+returns-in_default-clause-ends g c = (
+  usage_text,
+  status.Usage,
+  ends_by _ _ _ usage_text status.Usage _ (says_along _ _ _ _ c.usage_line.ensures c.say.ensures.says) c.end.ensures.says c.end.ensures.failed c.end.ensures.good (λ e. cc),
+)
+
+pub returns-in_default-from_str-clause-ends : goal.returns-in_default-from_str-clause-ends
+returns-in_default-from_str-clause-ends g c = (
+  [],
+  status.NoMemory,
+  ends_by _ _ _ [] status.NoMemory _ (says_none _) c.end-in_default-from_str.ensures.says c.end-in_default-from_str.ensures.failed c.end-in_default-from_str.ensures.good (λ e. cc),
+)
+
+pub returns-clause-ends : goal.returns-clause-ends
+returns-clause-ends g c =
+    let v = c.run_file-status.ensures.said in (
+      v.0,
+      c.run_file-status.result,
       ends_by _ _ _ v.0 _ _ v.1 c.end-2.ensures.says c.end-2.ensures.failed c.end-2.ensures.good c.run_file-status.ensures.output,
     )

@@ -1,9 +1,7 @@
-use Rattle.std.proofs.Common.{◌≡◌, ◌≤◌, ℕ, List, length, map, sym, ap, ◌∙◌, subst, arith, rules}
+use Rattle.std.proofs.Common.{length, map, ap, ◌∙◌, arith}
 use Rattle.std.specs.Prelude.{count_by}
-use Rattle.block_verdict.specs.declared.finding.Finding.{Finding}
 use Rattle.run_report.specs.Says.{says_along}
 use Rattle.recover_run.proofs.Looking.{looks_as_many}
-use Rattle.recover_run.specs.Looks.{findings_from}
 use Rattle.vdbench_top.specs.Findings.{are_corrupt, are_unread}
 use Rattle.vdbench_top.specs.Verification.{findings_text}
 use Rattle.vdbench_top.proofs.Pieces.{printable, few_findings, found_is, counted_is, corrupt_counted, unread_counted}

@@ -1,9 +1,10 @@
-use Rattle.std.proofs.Common.{◌≡◌, ◌∙◌, sym, ap, map, subst, IsTrue, Result, Ok, Err}
+use Rattle.std.proofs.Common.{◌≡◌, ◌∙◌, map, subst, IsTrue, Result, Ok, Err}
 use Rattle.vd_yard.specs.Yard.{Tells}
 use Rattle.std.specs.Prelude.{OnErr}
 use Rattle.run_report.specs.Says.{says_none}
 use Rattle.vdbench_top.specs.Verification.{not_begun, begun}
 use Rattle.vdbench_top.proofs.Contents.{blocks_stay}
+use Rattle.vdbench_top.proofs.Frames.{front_rose}
 use Rattle.vdbench_top.proofs.verification.verify_store.Goals as goal
 
 on_err : {T E P Q : Type 0} (r : Result T E) → (P → Q) → OnErr r P → OnErr r Q
@@ -33,7 +34,8 @@ returns-in-Ok-arm-clause-blocks g c =
 pub returns-in-Ok-arm-clause-front : goal.returns-in-Ok-arm-clause-front
 returns-in-Ok-arm-clause-front g c =
     on_err c.verify_through-answer.result
-    (λ p. begun p.0 (map g.Y.Arm.Pass.Pass.seen c.as_slice.result.now) p.1 (rw c.as_slice.ensures.value (record { blocks = c.in-Ok.ensures.blocks; told = c.in-Ok.ensures.told })) p.2 p.3)
+    (λ p. begun p.0 (map g.Y.Arm.Pass.Pass.seen c.as_slice.result.now) p.1 (rw c.as_slice.ensures.value (record { blocks = c.in-Ok.ensures.blocks; told = c.in-Ok.ensures.told })) p.2
+    (front_rose _ _ _ _ _ _ _ _ _ (c.arm.ensures.opens.counts ∙ c.passes.ensures.opens.counts) (c.keep_passes.ensures.counts ∙ c.keep_arm.ensures.counts) c.in-Ok-arm.ensures.fresh p.3) p.4)
     c.verify_through-answer.ensures.front
 
 pub returns-in-Failed-clause-blocks : goal.returns-in-Failed-clause-blocks

@@ -1,5 +1,4 @@
-use Rattle.std.proofs.Common.{◌≡◌, ◌++◌, List, length, map, take, sym, ap, ◌∙◌}
-use Rattle.std.proofs.lemmas.List.{length-map}
+use Rattle.std.proofs.Common.{◌≡◌, ◌++◌, length, map, sym, ap, ◌∙◌}
 use Rattle.run_report.specs.Says.{says_along, says_then}
 use Rattle.run_report.specs.Findings.{verified_text}
 use Rattle.vdbench_top.specs.Verification.{lines_of}
@@ -7,13 +6,13 @@ use Rattle.vdbench_top.proofs.Pieces.{front_none, front_all}
 use Rattle.vdbench_top.proofs.verification.verify_through.Goals as goal
 
 pub returns-in_default-clause-front : goal.returns-in_default-clause-front
-returns-in_default-clause-front g c = front_none g.A.Pass.Pass.seen c.args.store.now c.args.entries.now c.args.passes.now _
+returns-in_default-clause-front g c = front_none g.A.Pass.Pass.seen c.args.store.now c.args.entries.now c.args.passes.now _ _
 
 pub returns-in_default-verified_line-clause-front : goal.returns-in_default-verified_line-clause-front
 returns-in_default-verified_line-clause-front g c =
     let v = c.in_ok-counted.ensures.looks in
     let many : length (map g.A.Pass.Pass.seen c.args.passes.now) ≡ length c.args.entries.now = c.requires.blocks.as_many ∙ sym c.requires.one_each in
-    front_all g.A.Pass.Pass.seen c.args.store.now c.args.entries.now c.args.passes.now v.0 _ _ many v.1 v.4
+    front_all g.A.Pass.Pass.seen c.args.store.now c.args.entries.now c.args.passes.now v.0 _ _ _ _ many v.1 v.3.rose v.4
 
 pub returns-clause-looks : goal.returns-clause-looks
 returns-clause-looks g c =

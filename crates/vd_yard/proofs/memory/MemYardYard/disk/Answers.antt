@@ -5,7 +5,7 @@ use Rattle.vd_yard.specs.PathMap.{map_of}
 use Rattle.vd_yard.specs.Ledger.{ledger_out}
 use Rattle.vd_yard.proofs.Came.{still_willing, never_refused}
 use Rattle.vd_yard.proofs.Opened.{opened_other, opened_here, disk_not_there, found_some}
-use Rattle.vd_yard.proofs.Seen.{disk_told}
+use Rattle.vd_yard.proofs.Seen.{disk_told, disk_found}
 use Rattle.vd_yard.proofs.memory.MemYardYard.disk.Goals as goal
 
 pub returns-then-is_next_refused-clause-opens : goal.returns-then-is_next_refused-clause-opens
@@ -104,3 +104,7 @@ returns-in-Err-clause-opens c = record {
   disks = search rules;
   contents = search rules;
 }
+
+pub returns-in-Ok-open-clause-absent : goal.returns-in-Ok-open-clause-absent
+returns-in-Ok-open-clause-absent c = λ keeps none.
+    absurd (disk_found (map_of c.args.self.now.disks) c.args.path.now c.as_bytes.result.now c.in-Some.disk.now c.as_bytes.ensures c.in-Some.ensures none)

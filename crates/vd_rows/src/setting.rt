@@ -1,0 +1,121 @@
+// What a command runs over: a parameter file, a journal and a data file, and what it must print.
+use crate::image::image;
+use std::alloc::Global;
+use std::process::Abort;
+use vd_base::Sector;
+use vd_disk::MemDisk;
+use vd_outside::{MemSink, Text};
+use vd_yard::MemYard;
+use vdbench_top::vdbench_still;
+
+/// A parameter file of the store sd1: 16 blocks of 4,096 bytes.
+pub const PARAMETERS: &str = "sd=sd1,lun=/d/a,size=64k\nwd=wd1,sd=sd1,xfersize=4k\nrd=rd1,wd=wd1\n";
+
+/// What a gate has behind its epoch: the name sd1, 16 blocks, 4,096 bytes each, 8 log sectors.
+pub const STORE: &[u8] = b"sd1\0\0\0\0\0\0\0\0\x10\0\0\x10\0\0\0\0\x08";
+
+pub fn text(rt: &impl Abort, alloc: Global, text: &str) -> Text {
+    Text::from_str(alloc, text).expect(rt, "memory")
+}
+
+fn words_of(rt: &impl Abort, alloc: Global, line: &str) -> Vec<String> {
+    let mut words = Vec::new(alloc);
+    for word in line.split_whitespace() {
+        words
+            .push(String::from_str(alloc, word).expect(rt, "memory"))
+            .expect(rt, "memory");
+    }
+    words
+}
+
+/// Bytes of a journal: a sector, a place in it, and what stands there.
+pub type Bytes<'a> = (usize, usize, &'a [u8]);
+
+pub fn put(rt: &impl Abort, sectors: &mut Vec<Sector>, bytes: &Bytes) {
+    let (sector, at, here) = *bytes;
+    assert!(rt; sector < sectors.len() && at <= 512 && here.len() <= 512 - at);
+    sectors[sector][at..at + here.len()].copy_from_slice(here);
+}
+
+/// The sectors of a journal that is zeros but for these bytes. Of the whole one there are 20: two gates, and twice a map sector and
+/// 8 log sectors.
+pub fn journal(rt: &impl Abort, alloc: Global, many: usize, parts: &[Bytes]) -> Vec<Sector> {
+    let mut sectors = vec![in alloc; [0u8; 512]; many].expect(rt, "memory");
+    for bytes in parts {
+        put(rt, &mut sectors, bytes);
+    }
+    sectors
+}
+
+/// Some sectors of a block that have the images of a key: the block, the first sector, the one behind the last, and the key.
+pub type Stamped = (u32, u32, u32, u8);
+
+fn stamp(rt: &impl Abort, data: &mut Vec<u8>, stamped: &Stamped) {
+    let (block, first, end, key) = *stamped;
+    assert!(rt; block < 16 && end <= 8);
+    for place in first..end {
+        let at = (block * 4096 + place * 512) as usize;
+        assert!(rt; at + 512 <= data.len());
+        data[at..at + 512].copy_from_slice(&image(block, place, key));
+    }
+}
+
+/// The store's data: each byte is `fill` but for these images.
+pub fn data(rt: &impl Abort, alloc: Global, fill: u8, images: &[Stamped]) -> Vec<u8> {
+    let mut data = vec![in alloc; fill; 65536].expect(rt, "memory");
+    for stamped in images {
+        stamp(rt, &mut data, stamped);
+    }
+    data
+}
+
+/// A yard with a parameter file p, a journal, and data.
+pub fn yard(rt: &impl Abort, alloc: Global, sectors: Vec<Sector>, data: Vec<u8>) -> MemYard {
+    let mut yard = MemYard::new(alloc);
+    let file = PARAMETERS.as_bytes().to_vec(alloc).expect(rt, "memory");
+    yard.put_file(text(rt, alloc, "p"), file, Vec::new(alloc))
+        .expect(rt, "memory");
+    let disk = MemDisk::of(alloc, sectors, Vec::new(alloc)).expect(rt, "memory");
+    yard.put_disk(text(rt, alloc, "sd1.jnl"), disk)
+        .expect(rt, "memory");
+    yard.put_data(text(rt, alloc, "/d/a"), data, Vec::new(alloc))
+        .expect(rt, "memory");
+    yard
+}
+
+/// Runs a command, and fails where it doesn't print just this text or end with this status.
+pub fn expect(
+    rt: &impl Abort,
+    alloc: Global,
+    row: &str,
+    line: &str,
+    yard: &mut MemYard,
+    wanted: &str,
+    number: u8,
+) {
+    let words = words_of(rt, alloc, line);
+    let mut out = MemSink::new(alloc, Vec::new(alloc));
+    let status = vdbench_still(alloc, words.as_slice(), yard, &mut out);
+    assert!(rt; out.bytes() == wanted.as_bytes(), "{row}: another text");
+    assert_eq!(rt; status.number(), number, "{row}");
+}
+
+/// Runs a command whose output fails at this write, from 0: it must end with status 6, and what went out is this text.
+pub fn expect_failing(
+    rt: &impl Abort,
+    alloc: Global,
+    line: &str,
+    yard: &mut MemYard,
+    write: u64,
+    wanted: &str,
+) {
+    let words = words_of(rt, alloc, line);
+    let failing = Vec::from_slice(alloc, &[write]).expect(rt, "memory");
+    let mut out = MemSink::new(alloc, failing);
+    let status = vdbench_still(alloc, words.as_slice(), yard, &mut out);
+    assert!(rt;
+        out.bytes() == wanted.as_bytes(),
+        "write {write}: another text"
+    );
+    assert_eq!(rt; status.number(), 6, "write {write}");
+}
