@@ -3,3 +3,4 @@ pub mod Says
 pub mod Status
 pub mod Findings
 pub mod Lines
+pub mod Simulation

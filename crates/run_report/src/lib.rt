@@ -7,11 +7,13 @@
 mod finding;
 mod journal;
 mod printer;
+mod simulation;
 mod status;
 mod words;
 
 pub use finding::{Verified, finding_line, verified_line};
 pub use journal::{damaged_line, journal_fault_line, journal_line, mismatch_line, no_journal_line};
 pub use printer::Printer;
+pub use simulation::{Simulated, simulation_line};
 pub use status::{Status, last_lines};
 pub use words::{cannot_open_line, cannot_read_line, form_not_built_line, usage_line};

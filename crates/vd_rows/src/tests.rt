@@ -389,12 +389,31 @@ fn words_and_files(rt: HostRuntime) {
         "-jro -f",
         "-j -jr -f p",
         "-sim 1000001",
+        "-sim",
+        "-sim x",
+        "-sim 1 2",
         "-f p -jro",
         "-jro -f -p",
         "-jro -f p p",
         "--help",
     ] {
         expect(&rt, alloc, line, line, &mut created, USAGE, 4);
+    }
+    for (line, text) in [
+        (
+            "-sim 0",
+            "sim 0 taken 0 idle 0 ends 0 stops 0 wrong 0\nstatus 0\n",
+        ),
+        (
+            "-sim 1",
+            "sim 1 taken 1 idle 0 ends 0 stops 0 wrong 0\nstatus 0\n",
+        ),
+        (
+            "-sim 100",
+            "sim 100 taken 29 idle 71 ends 0 stops 0 wrong 0\nstatus 0\n",
+        ),
+    ] {
+        expect(&rt, alloc, line, line, &mut created, text, 0);
     }
     expect(
         &rt,

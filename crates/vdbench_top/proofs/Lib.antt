@@ -5,3 +5,4 @@ pub mod Pieces
 pub mod Contents
 pub mod Stores
 pub mod Tellings
+pub mod Schedules

@@ -6,3 +6,4 @@ pub mod Recovery
 pub mod Findings
 pub mod Verification
 pub mod Still
+pub mod Simulation

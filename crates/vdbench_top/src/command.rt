@@ -5,6 +5,8 @@
 pub enum Mode {
     /// Recovers each journal and verifies each store. No journal and no block's bytes change: `-jro`.
     RecoverOnly,
+    /// Runs a schedule of so many steps of the machine of workers, journal and device: `-sim`.
+    Simulate(u32),
 }
 
 /// A command.

@@ -7,6 +7,7 @@
 mod command;
 mod form;
 mod recovery;
+mod simulation;
 mod source;
 mod still;
 mod verification;

@@ -12,6 +12,7 @@ ghost use Rattle.vdbench_top.specs.Recovery.{damage_word as word_of_damage, Says
 
 use crate::form::store_of_bytes;
 use crate::recovery::{NotRecovered, recover_store};
+use crate::simulation::run_without_file;
 use crate::source::{Unread, read_file};
 use crate::verification::{NotVerified, verify_store};
 use crate::words::file_of_words;
@@ -21,7 +22,7 @@ use plan_types::StorePlan;
 use run_report::{
     Printer, Status, Verified, cannot_open_line, cannot_read_line, damaged_line,
     form_not_built_line, journal_fault_line, journal_line, last_lines, mismatch_line,
-    no_journal_line, usage_line,
+    no_journal_line,
 };
 use std::alloc::Global;
 use vd_base::StoreId;
@@ -29,7 +30,7 @@ use vd_outside::{NoMemory, Sink, Text};
 use vd_yard::Yard;
 
 /// Says a line that was made, and answers this status; or that memory ran out, and says nothing.
-fn say_line<S: Sink>(
+pub fn say_line<S: Sink>(
     line: Result<Text, NoMemory>,
     status: Status,
     printer: &mut Printer,
@@ -280,8 +281,8 @@ fn end<S: Sink>(status: Status, printer: &mut Printer, out: &mut S) -> Status
     status
 }
 
-/// A still command: it recovers the journal of the store that its parameter file names, verifies the store, and prints what is found. It
-/// writes no journal, and no block's bytes change. `words` are those after the program's name. It answers the status that the command
+/// A still command: it runs a schedule, or recovers the journal of the store that its parameter file names, verifies the store, and prints
+/// what is found. It writes no journal, and no block's bytes change. `words` are those after the program's name. It answers the status that the command
 /// ends with.
 pub fn vdbench_still<Y: Yard, S: Sink>(
     alloc: Global,
@@ -307,6 +308,10 @@ pub fn vdbench_still<Y: Yard, S: Sink>(
     ensures usage { command_said (map string_bytes words.now) ≡ None → Ends usage_text Status.Usage result (S.taken out.old) (S.taken out.new) }
     ensures usage_still { command_said (map string_bytes words.now) ≡ None → Y.seen yard.new ≡ Y.seen yard.old }
     ensures usage_only { result ≡ Status.Usage → command_said (map string_bytes words.now) ≡ None }
+
+    // A schedule that the words ask for is run, and its counts are printed.
+    ensures simulation { (n : ℕ) → steps_of (map string_bytes words.now) ≡ Some n →
+        (text : List ℕ) × (said : AStatus) × IsSimulated n text said × Ends text said result (S.taken out.old) (S.taken out.new) }
 
     // It ends by the lines of its status, whatever it had to say before; none is that an epoch ended.
     ensures ends { (text : List ℕ) × (said : AStatus) × Ends text said result (S.taken out.old) (S.taken out.new) }
@@ -339,8 +344,8 @@ pub fn vdbench_still<Y: Yard, S: Sink>(
 {
     let mut printer = Printer::new();
     let Some(name) = file_of_words(words) else {
-        printer.say(out, usage_line());
-        return end(Status::Usage, &mut printer, out);
+        let status = run_without_file(alloc, words, &mut printer, out);
+        return end(status, &mut printer, out);
     };
     let Ok(file) = Text::from_str(alloc, name) else {
         return end(Status::NoMemory, &mut printer, out);
@@ -351,4 +356,5 @@ pub fn vdbench_still<Y: Yard, S: Sink>(
 
 ghost use Rattle.run_report.specs.declared.status.Status.{Status as AStatus};
 ghost use Rattle.run_report.specs.Lines.{usage_text};
-ghost use Rattle.vdbench_top.specs.Words.{file_of, command_said};
+ghost use Rattle.vdbench_top.specs.Words.{file_of, steps_of, command_said};
+ghost use Rattle.vdbench_top.specs.Simulation.{IsSimulated};

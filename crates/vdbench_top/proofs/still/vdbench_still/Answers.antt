@@ -1,14 +1,33 @@
-use Rattle.std.proofs.Common.{refl, inl, []}
+use Rattle.std.proofs.Common.{refl, inl, [], sym}
+use Rattle.std.specs.Prelude.{map, string_bytes}
+use Rattle.vdbench_top.specs.Words.{file_of, steps_of}
 use Rattle.run_report.specs.declared.status.Status.TheVariants as status
-use Rattle.run_report.specs.Lines.{usage_text}
-use Rattle.run_report.specs.Says.{says_none, says_along}
+use Rattle.run_report.specs.Says.{says_none}
 use Rattle.vdbench_top.specs.Still.{still, cut, nothing}
+use Rattle.vdbench_top.proofs.Schedules.{no_steps, said_usage, said_steps, not_both, ends_usage}
 use Rattle.vdbench_top.proofs.Tellings.{ends_by, honest, same_file, told_along, bytes_along}
 use Rattle.vdbench_top.proofs.still.vdbench_still.Goals as goal
 
 pub returns-in_default-clause-usage : goal.returns-in_default-clause-usage
 returns-in_default-clause-usage g c none =
-    ends_by _ _ _ usage_text status.Usage _ (says_along _ _ _ _ c.usage_line.ensures c.say.ensures.says) c.end.ensures.says c.end.ensures.failed c.end.ensures.good (λ e. cc)
+    let v = c.run_without_file-status.ensures.said in
+    let u = said_usage _ _ _ v.2 (no_steps (file_of (map string_bytes c.args.words.now)) (steps_of (map string_bytes c.args.words.now)) none) in
+    ends_usage _ _ _ _ _ _ u.0 u.1 v.1 c.end.ensures.says c.end.ensures.failed c.end.ensures.good
+
+pub returns-in_default-clause-simulation : goal.returns-in_default-clause-simulation
+returns-in_default-clause-simulation g c n is =
+    let v = c.run_without_file-status.ensures.said in (
+      v.0,
+      c.run_without_file-status.result,
+      said_steps _ _ _ n v.2 is,
+      ends_by _ _ _ v.0 _ _ v.1 c.end.ensures.says c.end.ensures.failed c.end.ensures.good (λ e. absurd (c.run_without_file-status.ensures.no_sink e)),
+    )
+
+pub returns-in_default-from_str-clause-simulation : goal.returns-in_default-from_str-clause-simulation
+returns-in_default-from_str-clause-simulation g c n is = absurd (not_both (map string_bytes c.args.words.now) _ n (sym c.in-Some.ensures) is)
+
+pub returns-clause-simulation : goal.returns-clause-simulation
+returns-clause-simulation g c n is = absurd (not_both (map string_bytes c.args.words.now) _ n (sym c.in-Some.ensures) is)
 
 pub returns-in_default-from_str-clause-told : goal.returns-in_default-from_str-clause-told
 returns-in_default-from_str-clause-told g c file parameters is told = (
@@ -52,11 +71,12 @@ returns-clause-answer g c file parameters is told h =
     )
 
 pub returns-in_default-clause-ends : goal.returns-in_default-clause-ends
-returns-in_default-clause-ends g c = (
-  usage_text,
-  status.Usage,
-  ends_by _ _ _ usage_text status.Usage _ (says_along _ _ _ _ c.usage_line.ensures c.say.ensures.says) c.end.ensures.says c.end.ensures.failed c.end.ensures.good (λ e. cc),
-)
+returns-in_default-clause-ends g c =
+    let v = c.run_without_file-status.ensures.said in (
+      v.0,
+      c.run_without_file-status.result,
+      ends_by _ _ _ v.0 _ _ v.1 c.end.ensures.says c.end.ensures.failed c.end.ensures.good (λ e. absurd (c.run_without_file-status.ensures.no_sink e)),
+    )
 
 pub returns-in_default-from_str-clause-ends : goal.returns-in_default-from_str-clause-ends
 returns-in_default-from_str-clause-ends g c = (
