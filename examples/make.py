@@ -48,7 +48,7 @@ def case(files, disk, data):
 
 
 def clean():
-    """Every block holds what the journal says; one was marked bad in an earlier session."""
+    """Every block holds what the journal says; one was marked bad in an earlier run."""
     entries = [settled(3), settled(126), settled(7), ("bad",)] + [settled(1)] * 4 + [settled(0)] * 8
     records = [("begin", 0, 3, 4), ("begin", 1, 126, 1), ("end", 0, 4), ("end", 1, 1),
                ("beginrun", 4, 4), ("endrun", 4, 4), ("begin", 8, 0, 1), ("end", 8, 1)]
