@@ -17,6 +17,9 @@ import sys
 import time
 from pathlib import Path
 
+sys.dont_write_bytecode = True
+from memory import peak_of  # noqa: E402
+
 HERE = Path(__file__).resolve().parent
 SHORT = 100000
 LONG = 1000000
@@ -37,29 +40,6 @@ def run(program, steps):
     if done.returncode != 0 or not re.fullmatch(line, done.stdout):
         sys.exit(f"-sim {steps} ended with status {done.returncode}: {done.stdout[:400]!r}")
     return seconds, done.stdout
-
-
-def peak_of(program, steps):
-    """The greatest resident KiB of a run, looked up again and again while it goes on.
-
-    The system's own count would not do: it has what this process held as it started the program."""
-    child = subprocess.Popen([program, "-sim", str(steps)], stdin=subprocess.DEVNULL, stdout=subprocess.DEVNULL)
-    peak = 0
-    end = time.monotonic() + PATIENCE
-    try:
-        while child.poll() is None and time.monotonic() < end:
-            try:
-                status = Path(f"/proc/{child.pid}/status").read_text()
-            except OSError:
-                break
-            if Path(program).name[:15] in status.split("\n", 1)[0]:
-                peak = max([peak] + [int(line.split()[1]) for line in status.splitlines() if line.startswith("VmHWM:")])
-            time.sleep(0.001)
-    finally:
-        if time.monotonic() >= end:
-            child.kill()
-        child.wait()
-    return peak
 
 
 def main():
@@ -85,7 +65,7 @@ def measure(program, rounds):
     for steps, found in texts.items():
         if len(found) > 1:
             sys.exit(f"-sim {steps} printed {sorted(found)!r}")
-    peak = peak_of(program, LONG) / 1024
+    peak = peak_of([program, "-sim", str(LONG)], patience=PATIENCE) / 1024
     short = statistics.median(taken[SHORT])
     long = statistics.median(taken[LONG])
     print(f"{rounds} rounds, {os.cpu_count()} processors")

@@ -23,6 +23,7 @@ HERE = Path(__file__).resolve().parent
 sys.dont_write_bytecode = True
 sys.path.insert(0, str(HERE.parent / "examples"))
 import formats as f  # noqa: E402
+from memory import peak_of  # noqa: E402
 
 
 def write_data(path, name, first, last):
@@ -68,24 +69,6 @@ def run(words, folder):
     if done.returncode != 0:
         sys.exit(f"{words[0]} ended with status {done.returncode}: {done.stdout[:400]!r}")
     return seconds, done.stdout
-
-
-def peak_of(words, folder):
-    """The greatest resident KiB of a program, looked up again and again while it runs.
-
-    The system's own count would not do: it has what this process held as it started the program."""
-    child = subprocess.Popen(words, cwd=folder, stdin=subprocess.DEVNULL, stdout=subprocess.DEVNULL)
-    peak = 0
-    while child.poll() is None:
-        try:
-            status = Path(f"/proc/{child.pid}/status").read_text()
-        except OSError:
-            break
-        if Path(words[0]).name[:15] in status.split("\n", 1)[0]:
-            peak = max([peak] + [int(line.split()[1]) for line in status.splitlines() if line.startswith("VmHWM:")])
-        time.sleep(0.001)
-    child.wait()
-    return peak
 
 
 def read_once(folder):
