@@ -83,11 +83,15 @@ impl Disk for FileDisk {
 #[cfg(test)]
 mod tests {
     use super::*;
-    use std::fs;
+    use std::{env, fs};
 
     #[test]
     fn a_real_file_is_written_and_read(rt: HostRuntime) {
-        let path = "/tmp/vd_disk_file_test";
+        let path = env::temp_dir(&rt)
+            .expect(&rt, "a folder for temporary files")
+            .join(rt.alloc(), "vd_disk_file_test")
+            .expect(&rt, "memory");
+        let path = path.as_str();
         fs::write(&rt, path, [7u8; 1024]).expect(&rt, "a folder for temporary files");
         let file = File::options()
             .read(true)

@@ -89,7 +89,7 @@ impl<W: Write + Drop> Sink for StdSink<W> {
 #[cfg(test)]
 mod tests {
     use super::*;
-    use std::fs;
+    use std::{env, fs};
 
     /// Takes two bytes a write, and none once it holds its limit.
     #[derive(Drop)]
@@ -124,7 +124,11 @@ mod tests {
 
     #[test]
     fn a_file_is_read_to_its_end(rt: HostRuntime) {
-        let path = "/tmp/vd_outside_source_test";
+        let path = env::temp_dir(&rt)
+            .expect(&rt, "a folder for temporary files")
+            .join(rt.alloc(), "vd_outside_source_test")
+            .expect(&rt, "memory");
+        let path = path.as_str();
         fs::write(&rt, path, b"abc").expect(&rt, "a folder for temporary files");
         let file = File::open(&rt, path).expect(&rt, "the file that was just made");
         let mut source = FileSource::new(file);
@@ -135,7 +139,8 @@ mod tests {
         assert_eq!(rt; source.faults(), 0);
         fs::remove_file(&rt, path).expect(&rt, "the file that was just made");
         // A folder can be opened, and no read of it goes well.
-        let folder = File::open(&rt, "/tmp").expect(&rt, "a folder for temporary files");
+        let temporary = env::temp_dir(&rt).expect(&rt, "a folder for temporary files");
+        let folder = File::open(&rt, temporary.as_str()).expect(&rt, "a folder that is there");
         let mut source = FileSource::new(folder);
         assert!(rt; source.read(&mut out).is_err());
         assert_eq!(rt; source.faults(), 1);

@@ -204,8 +204,8 @@ impl<'a> Yard for HostYard<'a> {
 #[cfg(test)]
 mod tests {
     use super::*;
-    use std::fs;
     use std::process::Abort;
+    use std::{env, fs};
     use vd_arm::Arm;
     use vd_base::{StoreId, StoreName};
     use vd_disk::Disk;
@@ -269,9 +269,13 @@ mod tests {
     fn real_files_are_opened_and_given_back(rt: HostRuntime) {
         let name = StoreName::read(b"sd1").expect(&rt, "a good name");
         let geometry = Geometry::new(3, 512).expect(&rt, "a good geometry");
+        let temporary = env::temp_dir(&rt).expect(&rt, "a folder for temporary files");
+        let path = temporary
+            .join(rt.alloc(), "vd_yard_host_test")
+            .expect(&rt, "memory");
         let store = StorePlan {
             id: StoreId { name, geometry },
-            path: text(&rt, "/tmp/vd_yard_host_test"),
+            path: text(&rt, path.as_str()),
             journal: text(&rt, ""),
             threads: 1,
             openflags: text(&rt, ""),
@@ -291,6 +295,6 @@ mod tests {
         assert_eq!(rt; read_by_arm(&mut yard, &store, 4), None);
         fs::remove_file(&rt, store.path.as_str()).expect(&rt, "the file that was just made");
         assert_eq!(rt; read_once(&mut yard, &store.path, &mut out), None);
-        assert_eq!(rt; sectors_at(&mut yard, &text(&rt, "/tmp")), None);
+        assert_eq!(rt; sectors_at(&mut yard, &text(&rt, temporary.as_str())), None);
     }
 }
