@@ -1,1 +1,4 @@
 pub mod Entries
+pub mod Facts
+pub mod Books
+pub mod Quiet
