@@ -3,12 +3,16 @@
 
     bench/verify.py [PROGRAM] [--kib N] [--rounds N]
 
-The store, its journal and a second copy of the data stand in a folder of /tmp, which is removed at the end. All files are read once
-before the first round. In each round each program runs once, one after the other; printed are the medians, their ratios, and the
-greatest resident memory of vdbench.
+The store, its journal, a second copy of the data and the files that fio checks stand in the system's folder for temporary files, which is removed at the end.
+All files have one size and are read once before the first round. In each round each program runs once, one after the other; printed
+are the medians, their ratios, the targets and the greatest resident memory of vdbench.
+
+fio, where it is installed, reads files that it wrote itself, 4 KiB at a time: one whose blocks have a known pattern, and one with a
+checksum for each sector. Its time is what it tells of its reads, without its start; that of the others is of the whole program.
 """
 
 import argparse
+import json
 import os
 import shutil
 import signal
@@ -20,6 +24,9 @@ import time
 from pathlib import Path
 
 HERE = Path(__file__).resolve().parent
+OWN = "vdbench -jro"
+CMP = "cmp of two copies"
+CHECKSUMS = "fio verify=crc32c"
 sys.dont_write_bytecode = True
 sys.path.insert(0, str(HERE.parent / "examples"))
 import formats as f  # noqa: E402
@@ -61,6 +68,35 @@ def make_store(folder, kib):
     return blocks
 
 
+def fio_words(kib, kind, check):
+    """How fio is called for one of its files: a plain read or write call for each block, and the pages that are in memory stay there."""
+    return ["fio", "--output-format=json", "--name=check", f"--filename={kind}", f"--size={kib}k", "--bs=4k", "--ioengine=psync",
+            "--direct=0", "--invalidate=0", "--thread", *check]
+
+
+def fio_checks(folder, kib):
+    """The calls of fio by which its files are checked, after they were written; none where it isn't installed."""
+    if shutil.which("fio") is None:
+        return {}
+    kinds = {
+        "fio verify=pattern": ("pattern", ["--verify=pattern", "--verify_pattern=0x3c5a7e91"]),
+        CHECKSUMS: ("checksums", ["--verify=crc32c", "--verify_interval=512"]),
+    }
+    calls = {}
+    for name, (kind, check) in kinds.items():
+        run(fio_words(kib, kind, ["--rw=write", "--do_verify=0", *check]), folder)
+        calls[name] = fio_words(kib, kind, ["--rw=read", *check])
+    return calls
+
+
+def fio_seconds(text, size):
+    """How long fio read, as it tells."""
+    job = json.loads(text)["jobs"][0]
+    if job["error"] or job["read"]["io_bytes"] != size:
+        sys.exit(f"fio ended with error {job['error']} after {job['read']['io_bytes']} bytes")
+    return job["read"]["runtime"] / 1000
+
+
 def run(words, folder):
     """Seconds and standard output of a program."""
     start = time.perf_counter()
@@ -72,8 +108,8 @@ def run(words, folder):
 
 
 def read_once(folder):
-    for name in ("data", "copy", "sd1.jnl"):
-        with (folder / name).open("rb") as file:
+    for path in folder.iterdir():
+        with path.open("rb") as file:
             while file.read(1 << 20):
                 pass
 
@@ -81,7 +117,7 @@ def read_once(folder):
 def main():
     parser = argparse.ArgumentParser()
     parser.add_argument("program", nargs="?", default=str(HERE.parent / "crates/vdbench/out/vdbench"))
-    parser.add_argument("--kib", type=int, default=999999)
+    parser.add_argument("--kib", type=int, default=512 * 1024)
     parser.add_argument("--rounds", type=int, default=5)
     options = parser.parse_args()
     program = Path(options.program).resolve()
@@ -99,31 +135,43 @@ def main():
 
 def measure(program, folder, options):
     blocks = make_store(folder, options.kib)
-    read_once(folder)
+    size = blocks * f.BLOCK
     commands = {
-        "vdbench -jro": [program, "-jro", "-f", "parm"],
-        "cmp of two copies": ["cmp", "data", "copy"],
+        OWN: [program, "-jro", "-f", "parm"],
+        CMP: ["cmp", "data", "copy"],
         "sha256sum": ["sha256sum", "data"],
         "cat to nowhere": ["sh", "-c", "cat data >/dev/null"],
+        **fio_checks(folder, size // 1024),
     }
+    read_once(folder)
     wanted = (f"journal sd1 epoch 1 records 0\n"
               f"verified sd1 blocks {blocks} corrupt 0 pending 0 bad 0 faults 0\nstatus 0\n").encode()
     taken = {name: [] for name in commands}
     for _ in range(options.rounds):
         for name, words in commands.items():
             seconds, text = run(words, folder)
-            taken[name].append(seconds)
-            if name == "vdbench -jro" and text != wanted:
+            if name == OWN and text != wanted:
                 sys.exit(f"vdbench printed {text[:400]!r}, wanted {wanted!r}")
-    peak = peak_of(commands["vdbench -jro"], folder)
-    size = blocks * f.BLOCK / 1e6
+            taken[name].append(fio_seconds(text, size) if words[0] == "fio" else seconds)
+    peak = peak_of(commands[OWN], folder)
     median = {name: statistics.median(seconds) for name, seconds in taken.items()}
-    own = median["vdbench -jro"]
-    print(f"{blocks} blocks of {f.BLOCK} bytes, all settled, {size:.0f} MB, warm; {options.rounds} rounds, {os.cpu_count()} processors")
+    report(blocks, options.rounds, median)
+    print(f"peak resident memory of vdbench: {peak / 1024:.1f} MiB")
+
+
+def report(blocks, rounds, median):
+    size = blocks * f.BLOCK / 1e6
+    own = median[OWN]
+    print(f"{blocks} blocks of {f.BLOCK} bytes, all settled, {size:.0f} MB, warm; medians of {rounds} rounds, {os.cpu_count()} processors")
     print(f"{'':18} {'seconds':>9} {'MB/s':>8} {'speed of vdbench to it':>24}")
     for name, seconds in median.items():
         print(f"{name:18} {seconds:9.3f} {size / seconds:8.0f} {seconds / own:24.2f}")
-    print(f"peak resident memory of vdbench: {peak / 1024:.1f} MiB")
+    for name, least in ((CMP, 0.9), (CHECKSUMS, 1.0)):
+        if name in median:
+            ratio = median[name] / own
+            print(f"target: at least {least:.1f} of {name}: {ratio:.2f}, {'met' if ratio >= least else 'MISSED'}")
+        else:
+            print(f"target: at least {least:.1f} of {name}: not measured, fio isn't installed")
 
 
 if __name__ == "__main__":

@@ -1,13 +1,15 @@
 // A block's bytes beside its entry.
-ghost use Rattle.std.specs.Prelude.{◌≡◌, ◌≢◌, ◌↔◌, ◌⊎◌, ℕ, ◌+◌, ◌*◌, ◌/◌, ◌%◌, ◌<◌, ◌≤◌, [], length, IsTrue, MatchOption, slice_index_or};
+ghost use Rattle.std.specs.Prelude.{◌≡◌, ◌≢◌, ◌↔◌, ℕ, ◌+◌, ◌*◌, ◌/◌, ◌%◌, ◌<◌, ◌≤◌, [], length, MatchOption, IfOk, IfErr, slice_index_or};
 ghost use Rattle.vd_base.specs.Geometry.{IsGeometry, sectors_of, address_of};
 ghost use Rattle.key_state.specs.Entries.{IsEntry};
 ghost use Rattle.sector_stamp.specs.Image.{Matches, IsFirstDifference};
 ghost use Rattle.sector_stamp.specs.Block.{sector_of};
-ghost use Rattle.block_verdict.specs.Fits.{BytesFit, AllMatch};
+ghost use Rattle.block_verdict.specs.Fits.{BytesFit};
+ghost use Rattle.block_verdict.specs.Held.{IsHeld};
 ghost use Rattle.block_verdict.specs.Verdicts.{IsVerdict, IsFirstCorrupt, IsCorrupt, settled_by, HasOneVerdict, SoundWhereFit, FitAfterSettling, FitsWherePermitted, StampedFits};
 
 use crate::Verdict;
+use crate::held::{Held, both};
 use key_state::Entry;
 use sector_stamp::{Part, first_difference};
 use vd_base::{BlockNo, Key, Sector, StoreId, StoreName};
@@ -23,14 +25,29 @@ fn difference(name: &StoreName, address: u64, key: Key, sector: &Sector) -> Opti
     first_difference(name, address, key, sector)
 }
 
-/// The first difference of a sector from the image of the new one of two keys, where it matches neither.
+/// Which of two keys a sector matches, or its first difference from the image of the new one where it matches neither.
 #[inline(always)]
-fn corrupt_part(name: &StoreName, address: u64, old: Key, new: Key, sector: &Sector) -> Option<Part>
-    ensures { MatchOption result (Matches name.now address old sector.now ⊎ Matches name.now address new sector.now) (λ part. (Matches name.now address old sector.now → ⊥) × (Matches name.now address new sector.now → ⊥) × IsFirstDifference part name.now address new sector.now) }
+fn holds(name: &StoreName, address: u64, old: Key, new: Key, sector: &Sector) -> Result<Held, Part>
+    ensures held { IfOk result (λ held. IsHeld name.now address old new sector.now held) }
+    ensures neither { IfErr result (λ part. (Matches name.now address old sector.now → ⊥) × (Matches name.now address new sector.now → ⊥) × IsFirstDifference part name.now address new sector.now) }
 {
-    let part = difference(name, address, new, sector)?;
-    difference(name, address, old, sector)?;
-    Some(part)
+    let is_old = difference(name, address, old, sector).is_none();
+    match difference(name, address, new, sector) {
+        None => Ok(Held {
+            old: is_old,
+            new: true,
+        }),
+        Some(part) => {
+            if is_old {
+                Ok(Held {
+                    old: true,
+                    new: false,
+                })
+            } else {
+                Err(part)
+            }
+        }
+    }
 }
 
 /// The sectors of a block's bytes.
@@ -42,56 +59,45 @@ fn sectors_in(bytes: &[u8]) -> &[Sector]
     bytes.as_chunks::<512>().0
 }
 
-/// The first sector that matches neither of two keys.
+/// What a block that is settled at a key is.
 #[inline(always)]
-fn first_corrupt(
-    store: &StoreId,
-    block: BlockNo,
-    old: Key,
-    new: Key,
-    bytes: &[u8],
-) -> Option<(u32, Part)>
+fn settled(store: &StoreId, block: BlockNo, key: Key, bytes: &[u8]) -> Verdict
     requires block { block.0 < store.now.geometry.blocks }
     requires size { length bytes.now ≡ store.now.geometry.block_size }
-    ensures { MatchOption result (BytesFit store.now block.0 (Entry.Pending old new) bytes.now) (λ f. IsFirstCorrupt store.now block.0 (Entry.Pending old new) bytes.now f.0 f.1) }
+    ensures { IsVerdict store.now block.0 (Entry.Settled key) bytes.now result }
 {
     let sectors = sectors_in(bytes);
     for i in 0..store.geometry.sectors() {
         let address = store.geometry.address(block, i);
-        if let Some(part) = corrupt_part(&store.name, address, old, new, &sectors[i as usize]) {
-            return Some((i, part));
+        if let Some(part) = difference(&store.name, address, key, &sectors[i as usize]) {
+            return Verdict::Corrupt { sector: i, part };
         }
     }
-    None
+    Verdict::Clean
 }
 
-/// Whether every sector matches a key.
-#[inline(always)]
-fn all_match(store: &StoreId, block: BlockNo, key: Key, bytes: &[u8]) -> bool
+/// What a block is whose write is pending.
+fn pending(store: &StoreId, block: BlockNo, old: Key, new: Key, bytes: &[u8]) -> Verdict
     requires block { block.0 < store.now.geometry.blocks }
     requires size { length bytes.now ≡ store.now.geometry.block_size }
-    ensures { IsTrue result ↔ AllMatch store.now block.0 key bytes.now }
-{
-    let sectors = sectors_in(bytes);
-    for i in 0..store.geometry.sectors() {
-        let address = store.geometry.address(block, i);
-        if difference(&store.name, address, key, &sectors[i as usize]).is_some() {
-            return false;
-        }
-    }
-    true
-}
-
-/// Which key all sectors have, where each matches one of two.
-fn held(store: &StoreId, block: BlockNo, old: Key, new: Key, bytes: &[u8]) -> Verdict
-    requires block { block.0 < store.now.geometry.blocks }
-    requires size { length bytes.now ≡ store.now.geometry.block_size }
-    requires each { BytesFit store.now block.0 (Entry.Pending old new) bytes.now }
     ensures { IsVerdict store.now block.0 (Entry.Pending old new) bytes.now result }
 {
-    if all_match(store, block, new, bytes) {
+    let sectors = sectors_in(bytes);
+    let mut held = Held {
+        old: true,
+        new: true,
+    };
+    for i in 0..store.geometry.sectors() {
+        let address = store.geometry.address(block, i);
+        let here = match holds(&store.name, address, old, new, &sectors[i as usize]) {
+            Ok(here) => here,
+            Err(part) => return Verdict::Corrupt { sector: i, part },
+        };
+        held = both(held, here);
+    }
+    if held.new {
         Verdict::New
-    } else if all_match(store, block, old, bytes) {
+    } else if held.old {
         Verdict::Old
     } else {
         Verdict::Mixed
@@ -106,14 +112,8 @@ fn judged(store: &StoreId, block: BlockNo, entry: Entry, bytes: &[u8]) -> Verdic
     ensures { IsVerdict store.now block.0 entry bytes.now result }
 {
     match entry {
-        Entry::Settled(key) => match first_corrupt(store, block, key, key, bytes) {
-            Some((sector, part)) => Verdict::Corrupt { sector, part },
-            None => Verdict::Clean,
-        },
-        Entry::Pending { old, new } => match first_corrupt(store, block, old, new, bytes) {
-            Some((sector, part)) => Verdict::Corrupt { sector, part },
-            None => held(store, block, old, new, bytes),
-        },
+        Entry::Settled(key) => settled(store, block, key, bytes),
+        Entry::Pending { old, new } => pending(store, block, old, new, bytes),
         Entry::Bad => unreachable!(),
     }
 }

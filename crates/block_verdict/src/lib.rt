@@ -6,6 +6,7 @@
 #![tactic(auto)]
 
 mod finding;
+mod held;
 mod judging;
 mod outcome;
 

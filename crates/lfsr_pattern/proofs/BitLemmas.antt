@@ -10,7 +10,7 @@ use Rattle.std.proofs.lemmas.Grind.{pow_more}
 use Rattle.std.proofs.lemmas.Bool.{cases_lt}
 use Rattle.std.proofs.lemmas.Simd.{get_or-chunk}
 use lib.Lanes.{chunk}
-use Rattle.lfsr_pattern.specs.Pattern.{parity, IsLater, AreLater, IsPattern, bit}
+use Rattle.lfsr_pattern.specs.Pattern.{parity, IsLater, AreLater, IsFront, bit}
 use Rattle.lfsr_pattern.specs.Recurrences.{IsSound}
 
 -- the bits of what is shifted to the right
@@ -171,10 +171,10 @@ pub same_from_first : (bytes : List ℕ) (s first : ℕ) → s < 2 ^ 32 → firs
 same_from_first bytes s first fits fits' reads begins = same_from_bits_below 32 first s fits' fits (λ i le. reads i le ∙ begins i le)
 
 -- what the gathered faults say at the end
-pub is_pattern_by : (bytes : List ℕ) (seed first bad : ℕ) → length bytes ≡ 480 → seed < 2 ^ 32 → first < 2 ^ 32 → ((m : ℕ) → m < 32 → bit_at first m ≡ bit bytes m) → bad ≡ 0 → (bad ≡ 0 ↔ AreLater bytes 3808) → (first ≡ seed ↔ IsPattern seed bytes)
-is_pattern_by bytes seed first bad long fits fits' reads none all = (
-  (λ same. record { size = long; front = record { first = first_from_same bytes seed first reads same; later = all.0 none } }),
-  (λ p. same_from_first bytes seed first fits fits' reads p.front.first),
+pub front_by : (bytes : List ℕ) (seed first bad count : ℕ) → seed < 2 ^ 32 → first < 2 ^ 32 → ((m : ℕ) → m < 32 → bit_at first m ≡ bit bytes m) → bad ≡ 0 → (bad ≡ 0 ↔ AreLater bytes count) → (first ≡ seed ↔ IsFront seed bytes count)
+front_by bytes seed first bad count fits fits' reads none all = (
+  (λ same. record { first = first_from_same bytes seed first reads same; later = all.0 none }),
+  (λ front. same_from_first bytes seed first fits fits' reads front.first),
 )
 
 -- the step of a loop that gathers faults

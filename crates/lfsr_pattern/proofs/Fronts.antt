@@ -4,16 +4,17 @@ use Rattle.std.specs.Prelude.{bit_xor}
 use Rattle.std.specs.Int.{bit_at, to_le_bytes}
 use Rattle.std.proofs.lemmas.Nat.{from_le_bytes-to_le_bytes_4}
 use Rattle.std.proofs.lemmas.Nat.Bits.{bit_at_xor}
-use Rattle.std.proofs.lemmas.List.{get_or_append_left, get_or-append-add, take_more_set}
+use Rattle.std.proofs.lemmas.List.{get_or_append_left, get_or-append-add, take_more_set, take_all}
 use Rattle.std.proofs.lemmas.Bool.{cases_lt}
-use Rattle.lfsr_pattern.specs.Pattern.{parity, IsFront, bit}
+use Rattle.lfsr_pattern.specs.Pattern.{parity, IsFront, IsPattern, bit}
+use Rattle.lfsr_pattern.specs.Recurrences.{next_byte, next_state, StepsByRecurrence}
 use Rattle.lfsr_pattern.proofs.BitLemmas.{bit_at_shr, bit_at_low, bits_through, same_parity}
 
 pub four : (a b c d ab abc x : ℕ) → ab ≡ (a + b) % 2 → abc ≡ (ab + c) % 2 → x ≡ (abc + d) % 2 → x ≡ (a + b + c + d) % 2
 four a b c d ab abc x h1 h2 h3 = omega arith
 
 -- the next eight bits of the recurrence, all at once
-pub bits_that_follow : (s k : ℕ) → k < 8 → bit_at (bit_xor (bit_xor (bit_xor s (s / 2 ^ 1)) (s / 2 ^ 2)) (s / 2 ^ 22) % 2 ^ 8) k ≡ parity (bit_at s k) (bit_at s (k + 1)) (bit_at s (k + 2)) (bit_at s (k + 22))
+pub bits_that_follow : StepsByRecurrence
 bits_that_follow s k le =
     let x1 = bit_xor s (s / 2 ^ 1) in
     let x2 = bit_xor x1 (s / 2 ^ 2) in
@@ -95,28 +96,32 @@ shifted_bytes s n t fits small e =
     cc
 
 -- the step of the loop
-pub front_step : (seed s n t j : ℕ) (out : List ℕ) → j < length out → s < 2 ^ 32 → n < 256 → t ≡ n * 2 ^ 24 + s / 256 → ((k : ℕ) → k < 8 → bit_at n k ≡ parity (bit_at s k) (bit_at s (k + 1)) (bit_at s (k + 2)) (bit_at s (k + 22))) → IsFront seed (take j out ++ to_le_bytes w32 s) (8 * j) → IsFront seed (take (j + 1) (set out j (s % 256)) ++ to_le_bytes w32 t) (8 * (j + 1))
-front_step seed s n t j out room fits small e next front =
+pub front_step : (seed s t j : ℕ) (out : List ℕ) → j < length out → s < 2 ^ 32 → t ≡ next_state s → IsFront seed (take j out ++ to_le_bytes w32 s) (8 * j) → IsFront seed (take (j + 1) (set out j (s % 256)) ++ to_le_bytes w32 t) (8 * (j + 1))
+front_step seed s t j out room fits e front =
+    let n = next_byte s in
     let xs = take j out in
     let long : length xs ≡ j = omega (arith, length-take j out) in
     let front' : IsFront seed (xs ++ to_le_bytes w32 s) (8 * length xs) = subst (λ (i : ℕ). IsFront seed (xs ++ to_le_bytes w32 s) (8 * i)) (sym long) front in
-    let more = IsFront-more seed s n xs fits front' next in
+    let more = IsFront-more seed s n xs fits front' (bits_that_follow s) in
     let l : take (j + 1) (set out j (s % 256)) ≡ xs ++ (s % 256) ∷ [] = take_more_set out j (s % 256) room in
-    let r : to_le_bytes w32 t ≡ s / 256 % 256 ∷ s / 65536 % 256 ∷ s / 16777216 % 256 ∷ n ∷ [] = shifted_bytes s n t fits small e in
+    let r : to_le_bytes w32 t ≡ s / 256 % 256 ∷ s / 65536 % 256 ∷ s / 16777216 % 256 ∷ n ∷ [] = shifted_bytes s n t fits (omega arith) e in
     let one : take (j + 1) (set out j (s % 256)) ++ to_le_bytes w32 t ≡ (xs ++ (s % 256) ∷ []) ++ (s / 256 % 256 ∷ s / 65536 % 256 ∷ s / 16777216 % 256 ∷ n ∷ []) = cc in
     let two : (xs ++ (s % 256) ∷ []) ++ (s / 256 % 256 ∷ s / 65536 % 256 ∷ s / 16777216 % 256 ∷ n ∷ []) ≡ (xs ++ to_le_bytes w32 s) ++ n ∷ [] =
     append_assoc xs ((s % 256) ∷ []) (s / 256 % 256 ∷ s / 65536 % 256 ∷ s / 16777216 % 256 ∷ n ∷ []) ∙ sym (append_assoc xs (to_le_bytes w32 s) (n ∷ [])) in
     let at : IsFront seed ((xs ++ to_le_bytes w32 s) ++ n ∷ []) (8 * (j + 1)) = subst (λ (i : ℕ). IsFront seed ((xs ++ to_le_bytes w32 s) ++ n ∷ []) (8 * (i + 1))) long more in
     subst (λ (ys : List ℕ). IsFront seed ys (8 * (j + 1))) (sym (one ∙ two)) at
 
--- the end of the loop, where the last four bytes are the state alone
-pub front_at_end : (seed s : ℕ) (out : List ℕ) → length out ≡ 480 → IsFront seed (take 32 out ++ to_le_bytes w32 s) 256 → IsFront seed (take 32 out) 224
-front_at_end seed s out long front =
-    let xs = take 32 out in
-    let short : length xs ≡ 32 = omega (arith, length-take 32 out) in
-    let kept : (i : ℕ) → i < 256 → bit (xs ++ to_le_bytes w32 s) i ≡ bit xs i = λ i le. bit_left xs (to_le_bytes w32 s) i (omega arith) in
+-- the end of the loop
+pub pattern_at_end : (seed s j : ℕ) (out : List ℕ) → j ≡ 480 → length out ≡ 480 → IsFront seed (take j out ++ to_le_bytes w32 s) (8 * j) → IsPattern seed out
+pattern_at_end seed s j out e long front =
+    let whole : take j out ≡ out = take_all j out (omega arith) in
+    let f : IsFront seed (out ++ to_le_bytes w32 s) (8 * j) = subst (λ (ys : List ℕ). IsFront seed (ys ++ to_le_bytes w32 s) (8 * j)) whole front in
+    let kept : (i : ℕ) → i < 3840 → bit (out ++ to_le_bytes w32 s) i ≡ bit out i = λ i le. bit_left out (to_le_bytes w32 s) i (omega arith) in
     record {
-      first = λ i le. sym (kept i (omega arith)) ∙ front.first i le;
-      later = λ i le.
-          sym (kept (i + 32) (omega arith)) ∙ (front.later i (omega arith) ∙ same_parity (kept i (omega arith)) (kept (i + 1) (omega arith)) (kept (i + 2) (omega arith)) (kept (i + 22) (omega arith)));
+      size = long;
+      front = record {
+        first = λ i le. sym (kept i (omega arith)) ∙ f.first i le;
+        later = λ i le.
+            sym (kept (i + 32) (omega arith)) ∙ (f.later i (omega arith) ∙ same_parity (kept i (omega arith)) (kept (i + 1) (omega arith)) (kept (i + 2) (omega arith)) (kept (i + 22) (omega arith)));
+      };
     }

@@ -1,5 +1,6 @@
 pub mod BitLemmas
 pub mod Fronts
+pub mod LaneSteps
 pub mod OnePattern
 pub mod Squares
 pub mod FarBytes

@@ -64,3 +64,10 @@ from_eighth f count base far (suc n) i le room = elim (cases_lt i 224) [
       let at_1 : Holds f 1 (j + 128 + 64 + 32) = down f 1 (j + 128 + 64) (one (j + 128 + 64) (omega arith)) (one (j + 128 + 64 + 1) (omega arith)) (one (j + 128 + 64 + 2) (omega arith)) (one (j + 128 + 64 + 22) (omega arith)) at_2 in
       subst (λ (q : ℕ). Holds f 1 q) e at_1
 ]
+
+-- A recurrence that holds at all places holds with eight times its lags where they reach.
+pub to_eighth : (f : ℕ → ℕ) (count : ℕ) → ((i : ℕ) → i < count + 224 → Holds f 1 i) → (i : ℕ) → i < count → Holds f 8 i
+to_eighth f count one i le =
+    let two : (q : ℕ) → q < count + 192 → Holds f 2 q = λ q low. up f 1 q (one q (omega arith)) (one (q + 1) (omega arith)) (one (q + 2) (omega arith)) (one (q + 22) (omega arith)) (one (q + 32) (omega arith)) in
+    let four : (q : ℕ) → q < count + 128 → Holds f 4 q = λ q low. up f 2 q (two q (omega arith)) (two (q + 2) (omega arith)) (two (q + 4) (omega arith)) (two (q + 44) (omega arith)) (two (q + 64) (omega arith)) in
+    up f 4 i (four i (omega arith)) (four (i + 4) (omega arith)) (four (i + 8) (omega arith)) (four (i + 88) (omega arith)) (four (i + 128) (omega arith))

@@ -1,4 +1,5 @@
+pub mod Blocks
 pub mod Differences
-pub mod Parts
+pub mod Heads
 pub mod Images
 pub mod Sectors

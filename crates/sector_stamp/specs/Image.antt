@@ -25,6 +25,16 @@ pub record HasPattern (address key : ℕ) (sector : List ℕ) : Type 0 where
   pub behind_name : slice_range sector 28 32 ≡ 0 ∷ 0 ∷ 0 ∷ 0 ∷ []
   pub pattern : IsPattern (seed_of address key) (slice_range sector 32 512)
 
+-- the 32 bytes of an image before the pattern
+pub record IsHead (name : List ℕ) (address key : ℕ) (head : List ℕ) : Type 0 where
+  pub size : length head ≡ 32
+  pub named : HasName name head
+  pub addressed : HasAddress address head
+  pub keyed : HasKey address key head
+  pub behind_address : slice_range head 8 16 ≡ 0 ∷ 0 ∷ 0 ∷ 0 ∷ 0 ∷ 0 ∷ 0 ∷ 0 ∷ []
+  pub behind_key : slice_range head 18 20 ≡ 0 ∷ 0 ∷ []
+  pub behind_name : slice_range head 28 32 ≡ 0 ∷ 0 ∷ 0 ∷ 0 ∷ []
+
 -- the 512 bytes of a sector that was written with a key
 pub record IsImage (name : List ℕ) (address key : ℕ) (sector : List ℕ) : Type 0 where
   pub size : length sector ≡ 512

@@ -1,8 +1,11 @@
 // A sector as read, beside an image.
-ghost use Rattle.std.specs.Prelude.{◌≡◌, ◌≢◌, ◌↔◌, IsTrue, IsNone, MatchOption, slice_range};
-ghost use Rattle.sector_stamp.specs.Image.{HasName, HasAddress, HasKey, HasPattern, IsImage, IsFirstDifference, check_of};
+ghost use Rattle.std.specs.Prelude.{◌≡◌, ◌≢◌, ◌≤◌, ◌↔◌, IsTrue, IsNone, MatchOption, length, slice_range, take};
+ghost use Rattle.sector_stamp.specs.Image.{HasName, HasAddress, HasKey, IsImage, IsFirstDifference};
 
 use crate::Part;
+use crate::heading::{check, head};
+use lfsr_pattern::{is_pattern, seed};
+use std::simd::prelude::*;
 use vd_base::{Key, Sector, StoreName};
 
 /// The first part, in the order name, address, key, pattern, whose bytes aren't those of the image.
@@ -13,52 +16,40 @@ pub fn first_difference(name: &StoreName, address: u64, key: Key, sector: &Secto
     ensures none { IsNone result ↔ IsImage name.now address key sector.now }
     ensures part { MatchOption result (IsImage name.now address key sector.now) (λ part. IsFirstDifference part name.now address key sector.now) }
 {
-    if !has_name(&name.padded(), sector) {
-        return Some(Part::Name);
+    let padded = name.padded();
+    if is_image(&padded, address, key.get(), sector) {
+        return None;
     }
-    if !has_address(address, sector) {
-        return Some(Part::Address);
-    }
-    if !has_key(address, key.get(), sector) {
-        return Some(Part::Key);
-    }
-    if !has_pattern(address, key.get(), sector) {
-        return Some(Part::Pattern);
-    }
-    None
+    Some(differing(&padded, address, key.get(), sector))
 }
 
+/// Whether a sector is an image, for the padded name of its store. It is compared 32 bytes at a time.
 #[inline(always)]
-fn has_name(name: &[u8; 8], sector: &Sector) -> bool
-    ensures { IsTrue result ↔ HasName name.now sector.now }
+fn is_image(name: &[u8; 8], address: u64, key: u8, sector: &Sector) -> bool
+    ensures { IsTrue result ↔ IsImage name.now address key sector.now }
 {
-    sector[20..28] == name[..]
-}
-
-#[inline(always)]
-fn has_address(address: u64, sector: &Sector) -> bool
-    ensures { IsTrue result ↔ HasAddress address sector.now }
-{
-    sector[..8] == address.to_be_bytes()[..]
-}
-
-/// The exclusive or of the eight bytes of an address and of a key.
-#[inline(always)]
-pub(crate) fn check(address: u64, key: u8) -> u8
-    ensures { result ≡ check_of address key }
-{
-    let mut all = key;
-    for byte in address.to_be_bytes() {
-        all ^= byte;
+    if !begins_with(sector, &head(name, address, key)) {
+        return false;
     }
-    all
+    is_pattern(seed(address, key), pattern_of(sector))
 }
 
+/// The first 32 bytes.
 #[inline(always)]
-fn has_key(address: u64, key: u8, sector: &Sector) -> bool
-    ensures { IsTrue result ↔ HasKey address key sector.now }
+fn front(bytes: &[u8]) -> u8x32
+    requires { 32 ≤ length bytes.now }
+    ensures { result ≡ take 32 bytes.now }
 {
-    sector[16..18] == [key, check(address, key)]
+    u8x32::from_slice(bytes)
+}
+
+/// Whether these are a sector's first 32 bytes.
+#[inline(always)]
+fn begins_with(sector: &Sector, head: &[u8; 32]) -> bool
+    ensures { IsTrue result ↔ (take 32 sector.now ≡ head.now) }
+{
+    let differences = front(sector) ^ front(head);
+    differences.reduce_or() == 0
 }
 
 /// The bytes of the pattern.
@@ -72,18 +63,38 @@ fn pattern_of(sector: &Sector) -> &[u8; 480]
     }
 }
 
-#[inline(always)]
-fn has_pattern(address: u64, key: u8, sector: &Sector) -> bool
-    ensures { IsTrue result ↔ HasPattern address key sector.now }
+/// The first part of a sector, which isn't this image, that differs from it.
+#[cold]
+fn differing(name: &[u8; 8], address: u64, key: u8, sector: &Sector) -> Part
+    requires { IsImage name.now address key sector.now → ⊥ }
+    ensures { IsFirstDifference result name.now address key sector.now }
 {
-    if sector[8..16] != [0; 8] {
-        return false;
+    if !has_name(name, sector) {
+        return Part::Name;
     }
-    if sector[18..20] != [0; 2] {
-        return false;
+    if !has_address(address, sector) {
+        return Part::Address;
     }
-    if sector[28..32] != [0; 4] {
-        return false;
+    if !has_key(address, key, sector) {
+        return Part::Key;
     }
-    lfsr_pattern::is_pattern(lfsr_pattern::seed(address, key), pattern_of(sector))
+    Part::Pattern
+}
+
+fn has_name(name: &[u8; 8], sector: &Sector) -> bool
+    ensures { IsTrue result ↔ HasName name.now sector.now }
+{
+    sector[20..28] == name[..]
+}
+
+fn has_address(address: u64, sector: &Sector) -> bool
+    ensures { IsTrue result ↔ HasAddress address sector.now }
+{
+    sector[..8] == address.to_be_bytes()[..]
+}
+
+fn has_key(address: u64, key: u8, sector: &Sector) -> bool
+    ensures { IsTrue result ↔ HasKey address key sector.now }
+{
+    sector[16..18] == [key, check(address, key)]
 }

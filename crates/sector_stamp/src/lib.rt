@@ -7,6 +7,7 @@
 #![tactic(auto)]
 
 mod comparing;
+mod heading;
 mod part;
 mod stamping;
 
