@@ -8,3 +8,5 @@ pub mod Always
 pub mod Wrong
 pub mod Stepped
 pub mod Answering
+pub mod Once
+pub mod Valid

@@ -143,21 +143,21 @@ Changes w event.Recover new =
     (new ≡ record w { base = new.base; records = []; synced = 0; stopped = false }) × (length new.base ≡ length w.base)
     × ((b : ℕ) → b < length w.base → Settles (key_of w b) w.sectors (entry_of w b) (entry_at new.base b))
 
--- The event appends a record, for which it takes memory.
-abbrev pub Appends : Event → Type 0
-Appends (event.Begin a) = ⊤
-Appends (event.End a) = ⊤
-Appends (event.Bad a b) = ⊤
-Appends (event.Clear a) = ⊤
-Appends (event.Claim a b) = ⊥
-Appends event.Sync = ⊥
-Appends (event.Write a b s) = ⊥
-Appends (event.Ack a) = ⊥
-Appends (event.Fault a) = ⊥
-Appends (event.Release a) = ⊥
-Appends event.Turnover = ⊥
-Appends (event.Stop keep) = ⊥
-Appends event.Recover = ⊥
+-- The event appends a record, for which it takes memory. A beginning does where some listed block is settled.
+abbrev pub Appends : World → Event → Type 0
+Appends w (event.Begin a) = SomeSettled (entry_of w) (hold_of w a)
+Appends w (event.End a) = ⊤
+Appends w (event.Bad a b) = ⊤
+Appends w (event.Clear a) = ⊤
+Appends w (event.Claim a b) = ⊥
+Appends w event.Sync = ⊥
+Appends w (event.Write a b s) = ⊥
+Appends w (event.Ack a) = ⊥
+Appends w (event.Fault a) = ⊥
+Appends w (event.Release a) = ⊥
+Appends w event.Turnover = ⊥
+Appends w (event.Stop keep) = ⊥
+Appends w event.Recover = ⊥
 
 -- One event: its change where it may happen, else nothing.
 abbrev pub Step : World → Event → World → Type 0

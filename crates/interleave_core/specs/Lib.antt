@@ -7,3 +7,4 @@ pub mod Journal
 pub mod JournalInside
 pub mod MachineInside
 pub mod Summary
+pub mod Once

@@ -1,7 +1,7 @@
 -- A sound world.
-use Rattle.std.specs.Prelude.{List, ◌≡◌, ◌≢◌, ◌↔◌, ⊤, ℕ, ◌*◌, ◌<◌, ◌≤◌, true, length}
+use Rattle.std.specs.Prelude.{List, ◌≡◌, ◌≢◌, ◌↔◌, ⊤, ℕ, ◌*◌, ◌<◌, ◌≤◌, true, length, take}
 use Rattle.key_state.specs.declared.entry.Entry.TheVariants.{Bad}
-use Rattle.key_state.specs.Entries.{IsPending, IsHistory, entry_at}
+use Rattle.key_state.specs.Entries.{AreEntries, IsPending, IsHistory, entry_at, states}
 use Rattle.interleave_core.specs.declared.hold.Stage.{Stage}
 use Rattle.interleave_core.specs.declared.hold.Stage.TheVariants.{Free, Claimed, Queued, Writing, Acked, Done}
 use Rattle.interleave_core.specs.Fits.{Fits}
@@ -54,6 +54,10 @@ Always P = (blocks sectors workers : ℕ) (list : List Event) (w : World) → Ru
 -- Each sector fits its block's entry.
 abbrev pub SectorsFit : World → Type 0
 SectorsFit w = (b s : ℕ) → b < length w.base → s < w.sectors → Fits (entry_of w b) (key_of w b s)
+
+-- After each front of the records each entry is one: a pending block goes to the next key.
+abbrev pub ValidEntries : World → Type 0
+ValidEntries w = (count : ℕ) → AreEntries (states w.base (take count w.records))
 
 -- A stop at any allowed length leaves sectors that fit.
 abbrev pub StopsFitting : World → Type 0

@@ -2,7 +2,8 @@
 //!
 //! It promises that a [`World`] takes exactly the events that may happen and changes as they say; that it is sound at all times,
 //! after every list of events, stops and recoveries among them: no block is in two operations, the history is legal, and the
-//! sectors fit what the journal knows at whatever record it is cut; and that no schedule of [`simulate`] finds a wrong sector.
+//! sectors fit what the journal knows wherever it is cut at or behind its synced records; and that a number has one schedule,
+//! in which [`simulate`] finds no wrong sector.
 //! It stands on `key_state` for entries and records, and on `rand_pcg` for the words of a schedule.
 #![tactic(auto)]
 
@@ -18,7 +19,7 @@ mod world;
 
 pub use event::Event;
 pub use hold::{Hold, Stage};
-pub use law::stays_sound;
+pub use law::{has_one_outcome, stays_sound};
 pub use schedule::simulate;
 pub use summary::Summary;
 pub use world::World;

@@ -305,7 +305,7 @@ impl Machine {
     fn begin(&mut self, worker: u32) -> Result<bool, NoMemory>
         ensures ok { IfOk result (λ taken. Does self.old (events.Begin worker) taken self.new) }
         ensures err { OnErr result (self.new ≡ self.old) }
-        ensures memory { OnErr result (Enabled self.old (events.Begin worker)) }
+        ensures memory { OnErr result (Enabled self.old (events.Begin worker) × Appends self.old (events.Begin worker)) }
     {
         if !self.has_claimed(worker) {
             return Ok(false);
@@ -537,7 +537,7 @@ impl Machine {
     pub fn step(&mut self, event: &Event) -> Result<bool, NoMemory>
         ensures ok { IfOk result (λ taken. Does self.old event.now taken self.new) }
         ensures err { OnErr result (self.new ≡ self.old) }
-        ensures memory { OnErr result (Enabled self.old event.now × Appends event.now) }
+        ensures memory { OnErr result (Enabled self.old event.now × Appends self.old event.now) }
     {
         match event {
             Event::Claim { worker, block } => Ok(self.claim(*worker, *block)),

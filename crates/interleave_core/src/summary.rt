@@ -11,6 +11,6 @@ pub struct Summary {
     pub ends: u64,
     /// The stops, each with its recovery.
     pub stops: u64,
-    /// The sectors that fitted no key of their block's entry after a stop.
+    /// The sectors, those of bad blocks aside, that fitted no key of their block's entry after a stop, over all stops.
     pub wrong: u64,
 }

@@ -50,7 +50,7 @@ impl World {
     pub fn step(&mut self, event: &Event) -> Result<bool, NoMemory>
         ensures ok { IfOk result (λ taken. Does self.old event.now taken self.new) }
         ensures err { OnErr result (self.new ≡ self.old) }
-        ensures memory { OnErr result (Enabled self.old event.now × Appends event.now) }
+        ensures memory { OnErr result (Enabled self.old event.now × Appends self.old event.now) }
         ensures sound { Sound self.new }
     {
         self.machine.step(event)

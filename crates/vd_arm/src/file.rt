@@ -102,11 +102,15 @@ impl Arm for FileArm {
 #[cfg(test)]
 mod tests {
     use super::*;
-    use std::fs;
+    use std::{env, fs};
 
     #[test]
     fn blocks_are_read_at_their_places(rt: HostRuntime) {
-        let path = "/tmp/vd_arm_file_test";
+        let path = env::temp_dir(&rt)
+            .expect(&rt, "a folder for temporary files")
+            .join(rt.alloc(), "vd_arm_file_test")
+            .expect(&rt, "memory");
+        let path = path.as_str();
         fs::write(&rt, path, b"aaaabbbbcc").expect(&rt, "a folder for temporary files");
         let file = File::open(&rt, path).expect(&rt, "the file that was just made");
         let mut arm = FileArm::new(file);

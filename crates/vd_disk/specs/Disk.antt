@@ -1,5 +1,5 @@
 -- A disk of sectors, and what a stop may leave of it.
-use Rattle.std.specs.Prelude.{◌≡◌, ◌⊎◌, ℕ, Bool, ◌-◌, ◌≤◌, ◌<◌, List, [], ◌∷◌, ◌++◌, length, take, map, Contains, slice_index_or, slice_set, Option, Some, None, Result, OnErr, OnOk, All}
+use Rattle.std.specs.Prelude.{◌≡◌, ◌⊎◌, ℕ, Bool, ◌-◌, ◌≤◌, ◌<◌, List, [], ◌∷◌, ◌++◌, length, replicate, take, map, Contains, slice_index_or, slice_set, Option, Some, None, Result, OnErr, OnOk, All}
 
 -- the sectors of a disk, each by its bytes
 abbrev pub Sectors : Type 0
@@ -47,6 +47,17 @@ written at bytes table = slice_set table at (slice_index_or table at [] ++ bytes
 abbrev pub settled : Sectors → Table
 settled sectors = map (λ sector. sector ∷ []) sectors
 
+-- a sector of zeros
+abbrev pub zeros : List ℕ
+zeros = replicate 512 0
+
+-- as many sectors more as there are too few, which have zeros alone
+abbrev pub longer : ℕ → Sectors → Sectors
+longer size sectors = sectors ++ replicate (size - length sectors) zeros
+
+abbrev pub longer_table : ℕ → Table → Table
+longer_table size table = table ++ replicate (size - length table) (zeros ∷ [])
+
 -- The earlier moments are as they were.
 pub record Extends (old new : List Table) : Type 0 where
   pub front : take (length old) new ≡ old
@@ -92,3 +103,15 @@ pub record Syncs {E : Type 0} (old new : DiskSeen) (result : Result (Unit {0}) E
   pub told : new.told ≡ old.told
   pub settles : OnOk result (WhenTold old.told (λ sectors. new.moments ≡ old.moments ++ settled sectors ∷ []))
   pub failed : OnErr result (new.moments ≡ old.moments)
+
+abbrev pub told_longer : ℕ → Option Sectors → Option Sectors
+told_longer size None = None
+told_longer size (Some sectors) = Some (longer size sectors)
+
+-- a shorter disk made so long: one more moment, in which a stop leaves the new sectors as zeros
+abbrev pub lengthened : ℕ → DiskSeen → DiskSeen
+lengthened size disk = record disk {
+  sectors = size;
+  told = told_longer size disk.told;
+  moments = disk.moments ++ longer_table size (present disk.moments) ∷ [];
+}

@@ -1,20 +1,22 @@
 -- A disk in memory by what it began with and the writes and syncs since.
-use Rattle.std.specs.Prelude.{◌++◌, ◌==◌, ℕ, List, [], ◌∷◌, slice_set, if◌then◌else◌}
+use Rattle.std.specs.Prelude.{◌≡◌, ◌<◌, ◌≤◌, ℕ, List, [], ◌∷◌, length, slice_set, slice_index_or}
 use Rattle.vd_disk.specs.declared.memory.Step.{Step}
-use Rattle.vd_disk.specs.declared.memory.Step.TheVariants.{Write, FailedWrite, Sync}
-use Rattle.vd_disk.specs.Disk.{Sectors, Table, written, settled}
+use Rattle.vd_disk.specs.declared.memory.Step.TheVariants.{Write, FailedWrite, Sync, Lengthen}
+use Rattle.vd_disk.specs.Disk.{Sectors, Table, written, settled, longer, longer_table, zeros}
 
 -- A failed write leaves what a read gives.
 abbrev pub now_next : Sectors → Step → Sectors
 now_next now (Write at bytes) = slice_set now at bytes
 now_next now (FailedWrite at bytes) = now
 now_next now Sync = now
+now_next now (Lengthen size) = longer size now
 
--- A write adds a content, also a failed one; a sync leaves the present ones.
+-- A write adds a content, also a failed one; a sync leaves the present ones; new sectors have zeros alone.
 abbrev pub table_next : Table → Sectors → Step → Table
 table_next table now (Write at bytes) = written at bytes table
 table_next table now (FailedWrite at bytes) = written at bytes table
 table_next table now Sync = settled now
+table_next table now (Lengthen size) = longer_table size table
 
 -- the sectors after these steps
 abbrev pub now_after : Sectors → List Step → Sectors
@@ -30,11 +32,10 @@ tables_after table now (step ∷ steps) = table ∷ tables_after (table_next tab
 abbrev pub tables_from : Sectors → List Step → List Table
 tables_from first steps = tables_after (settled first) first steps
 
--- the contents that one sector may have after these steps, by those before and what it has
-abbrev pub row_after : ℕ → Sectors → List ℕ → List Step → Sectors
-row_after place row current [] = row
-row_after place row current (Write at bytes ∷ steps) =
-    if at == place then row_after place (row ++ bytes ∷ []) bytes steps else row_after place row current steps
-row_after place row current (FailedWrite at bytes ∷ steps) =
-    if at == place then row_after place (row ++ bytes ∷ []) current steps else row_after place row current steps
-row_after place row current (Sync ∷ steps) = row_after place (current ∷ []) current steps
+-- the contents that the sector at a place may have, and what it has, of this table and these sectors; none where it isn't there
+pub record HasRow (place : ℕ) (table : Table) (now held : Sectors) (current : List ℕ) (end : ℕ) : Type 0 where
+  pub as_many : length table ≡ length now
+  pub end_is : end ≡ length now
+  pub held_is : held ≡ slice_index_or table place []
+  pub current_is : place < end → current ≡ slice_index_or now place []
+  pub not_yet : end ≤ place → current ≡ zeros

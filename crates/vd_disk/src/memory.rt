@@ -1,8 +1,8 @@
 // A disk in memory. It keeps what it began with and each write and sync since, so it can tell each moment.
-ghost use Rattle.std.specs.Prelude.{◌≡◌, ◌<◌, ◌++◌, [], ◌∷◌, IfOk, Some, None, length, replicate, true, false};
+ghost use Rattle.std.specs.Prelude.{◌≡◌, ◌<◌, ◌≤◌, ◌^◌, ◌++◌, [], ◌∷◌, IfOk, OnErr, OnOk, Some, None, length, replicate, slice_index_or, slice_set, true, false};
 ghost use Rattle.std.proofs.Props.{props};
-ghost use Rattle.vd_disk.specs.Disk.{present, IsImage};
-ghost use Rattle.vd_disk.specs.Step.{now_after, row_after, tables_from};
+ghost use Rattle.vd_disk.specs.Disk.{IsImage, Sectors, Table, lengthened, longer, longer_table, present, settled, written};
+ghost use Rattle.vd_disk.specs.Step.{HasRow, now_after, now_next, table_next, tables_from};
 ghost use Rattle.vd_disk.specs.Tale.{IsPicked};
 
 use crate::Disk;
@@ -18,6 +18,8 @@ pub enum Step {
     /// A write that answered no: a read doesn't give it, and a stop may leave it.
     FailedWrite(u64, Sector),
     Sync,
+    /// The disk has so many sectors, the new ones of zeros.
+    Lengthen(u64),
 }
 
 /// A disk in memory. Calls with listed numbers fail, and all once a fuse has burnt down; a write or sync whose note finds no memory
@@ -58,58 +60,149 @@ fn copied_steps(alloc: Global, steps: &[Step]) -> Result<Vec<Step>, AllocError>
     Ok(copy)
 }
 
+/// What one sector may have after a stop, the oldest first, and what it has: none where there are no more than `end` sectors.
+#[derive(Drop)]
+struct Row {
+    held: Vec<Sector>,
+    current: Sector,
+    end: u64,
+}
+
+/// The row of a sector as the disk began.
+fn first_row(alloc: Global, first: &[Sector], place: u64) -> Result<Row, AllocError>
+    requires { length first.now < 2 ^ 63 }
+    ensures { IfOk result (λ row. HasRow place (settled first.now) first.now row.held.items row.current row.end) }
+{
+    let end = first.len() as u64;
+    let mut held = Vec::new(alloc);
+    if place >= end {
+        return Ok(Row {
+            held,
+            current: [0; 512],
+            end,
+        });
+    }
+    let current = first[place as usize];
+    held.push(current)?;
+    Ok(Row { held, current, end })
+}
+
+impl Row {
+    /// A write of these bytes.
+    fn write(&mut self, place: u64, at: u64, bytes: &Sector) -> Result<(), AllocError>
+        ensures { OnOk result ((table : Table) (now : Sectors) → HasRow place table now self.old.held.items self.old.current self.old.end →
+            HasRow place (written at bytes.now table) (slice_set now at bytes.now) self.new.held.items self.new.current self.new.end) }
+    {
+        if at != place || place >= self.end {
+            return Ok(());
+        }
+        self.held.push(*bytes)?;
+        self.current = *bytes;
+        Ok(())
+    }
+
+    /// A write of these bytes that answered no.
+    fn write_failed(&mut self, place: u64, at: u64, bytes: &Sector) -> Result<(), AllocError>
+        ensures { OnOk result ((table : Table) (now : Sectors) → HasRow place table now self.old.held.items self.old.current self.old.end →
+            HasRow place (written at bytes.now table) now self.new.held.items self.new.current self.new.end) }
+    {
+        if at != place || place >= self.end {
+            return Ok(());
+        }
+        self.held.push(*bytes)?;
+        Ok(())
+    }
+
+    fn sync(&mut self, place: u64) -> Result<(), AllocError>
+        ensures { OnOk result ((table : Table) (now : Sectors) → HasRow place table now self.old.held.items self.old.current self.old.end →
+            HasRow place (settled now) now self.new.held.items self.new.current self.new.end) }
+    {
+        if place >= self.end {
+            return Ok(());
+        }
+        self.held.clear();
+        self.held.push(self.current)?;
+        Ok(())
+    }
+
+    fn lengthen(&mut self, place: u64, size: u64) -> Result<(), AllocError>
+        ensures { OnOk result ((table : Table) (now : Sectors) → HasRow place table now self.old.held.items self.old.current self.old.end →
+            HasRow place (longer_table size table) (longer size now) self.new.held.items self.new.current self.new.end) }
+    {
+        if self.end <= place && place < size {
+            self.held.push([0; 512])?;
+            self.end = self.end.max(size);
+            return Ok(());
+        }
+        self.end = self.end.max(size);
+        Ok(())
+    }
+
+    /// One step more.
+    fn step(&mut self, place: u64, step: &Step) -> Result<(), AllocError>
+        ensures { OnOk result ((table : Table) (now : Sectors) → HasRow place table now self.old.held.items self.old.current self.old.end →
+            HasRow place (table_next table now step.now) (now_next now step.now) self.new.held.items self.new.current self.new.end) }
+    {
+        match step {
+            Step::Write(at, bytes) => self.write(place, *at, bytes),
+            Step::FailedWrite(at, bytes) => self.write_failed(place, *at, bytes),
+            Step::Sync => self.sync(place),
+            Step::Lengthen(size) => self.lengthen(place, *size),
+        }
+    }
+}
+
 /// The contents that a sector may have after a stop, the oldest first.
 fn held_at(
     alloc: Global,
-    first: &Sector,
+    first: &[Sector],
     steps: &[Step],
     place: u64,
 ) -> Result<Vec<Sector>, AllocError>
-    ensures row { IfOk result (λ held. held.items ≡ row_after place (first.now ∷ []) first.now steps.now) }
+    requires few { length first.now < 2 ^ 63 }
+    requires within { place < length (now_after first.now steps.now) }
+    ensures row { IfOk result (λ held. held.items ≡ slice_index_or (present (tables_from first.now steps.now)) place []) }
     ensures some { IfOk result (λ held. 0 < length held.items) }
 {
-    let mut current = *first;
-    let mut held = Vec::new(alloc);
-    held.push(current)?;
+    let mut row = first_row(alloc, first, place)?;
     for step in steps {
-        match step {
-            Step::Write(at, bytes) => {
-                if *at == place {
-                    current = *bytes;
-                    held.push(current)?;
-                }
-            }
-            Step::FailedWrite(at, bytes) => {
-                if *at == place {
-                    held.push(*bytes)?;
-                }
-            }
-            Step::Sync => {
-                held.clear();
-                held.push(current)?;
-            }
-        }
+        row.step(place, step)?;
     }
-    Ok(held)
+    Ok(row.held)
 }
 
-/// Of the contents that each sector may have after a stop the one of its number.
+/// Of the contents that each of so many sectors may have after a stop the one of its number.
 fn picked(
     alloc: Global,
     first: &[Sector],
     steps: &[Step],
+    sectors: usize,
     pick: u64,
 ) -> Result<Vec<Sector>, AllocError>
+    requires few { length first.now < 2 ^ 63 }
+    requires all { sectors ≡ length (now_after first.now steps.now) }
     ensures picked { IfOk result (λ image. IsPicked pick (present (tables_from first.now steps.now)) image.items) }
     ensures possible { IfOk result (λ image. IsImage (present (tables_from first.now steps.now)) image.items) }
 {
     let mut image = Vec::new(alloc);
-    for i in 0..first.len() {
-        let held = held_at(alloc, &first[i], steps, i as u64)?;
+    for i in 0..sectors {
+        let held = held_at(alloc, first, steps, i as u64)?;
         let place = (i as u64 + 1).wrapping_mul(pick) % held.len() as u64;
         image.push(held[place as usize])?;
     }
     Ok(image)
+}
+
+/// These sectors, and as many of zeros as there are too few.
+fn made_longer(alloc: Global, sectors: &[Sector], size: u64) -> Result<Vec<Sector>, AllocError>
+    requires { length sectors.now ≤ size }
+    ensures { IfOk result (λ all. all.items ≡ longer size sectors.now) }
+{
+    let mut all = copied(alloc, sectors)?;
+    for _i in sectors.len() as u64..size {
+        all.push([0; 512])?;
+    }
+    Ok(all)
 }
 
 /// Adds a step, and says whether memory was found for it.
@@ -168,6 +261,26 @@ impl MemDisk {
         })
     }
 
+    /// Makes a shorter disk so long, by sectors of zeros, which is one moment; a longer one stays. Where memory runs out nothing changes.
+    pub fn lengthen(&mut self, alloc: Global, sectors: u64) -> Result<(), NoMemory>
+        ensures long_enough { sectors ≤ (mem_disk_seen self.old).sectors → OnOk result (mem_disk_seen self.new ≡ mem_disk_seen self.old) }
+        ensures longer { (mem_disk_seen self.old).sectors < sectors → OnOk result (mem_disk_seen self.new ≡ lengthened sectors (mem_disk_seen self.old)) }
+        ensures calls { calls_of self.new ≡ calls_of self.old }
+        ensures err { OnErr result (mem_disk_seen self.new ≡ mem_disk_seen self.old) }
+    {
+        if sectors <= self.content.len() as u64 {
+            return Ok(());
+        }
+        let Ok(content) = made_longer(alloc, &self.content, sectors) else {
+            return Err(NoMemory);
+        };
+        if !is_noted(&mut self.steps, Step::Lengthen(sectors)) {
+            return Err(NoMemory);
+        }
+        self.content = content;
+        Ok(())
+    }
+
     /// Lets so many more reads, writes and syncs go on, and makes every later one fail.
     pub fn fuse(&mut self, calls: u64)
         ensures seen { mem_disk_seen self.new ≡ record (mem_disk_seen self.old) { sure = false } }
@@ -196,12 +309,12 @@ impl MemDisk {
         ensures picked { IfOk result (λ image. IsPicked pick (present (mem_disk_seen self.now).moments) image.items) }
         ensures possible { IfOk result (λ image. IsImage (present (mem_disk_seen self.now).moments) image.items) }
     {
-        Ok(picked(alloc, &self.first, &self.steps, pick)?)
+        Ok(picked(alloc, &self.first, &self.steps, self.content.len(), pick)?)
     }
 }
 
 impl Disk for MemDisk {
-    ghost use Rattle.std.specs.Prelude.{◌↔◌, IsErr, IsTrue, OnErr, OnOk, slice_get};
+    ghost use Rattle.std.specs.Prelude.{◌↔◌, IsErr, IsTrue, slice_get};
     ghost use Rattle.vd_disk.specs.Calls.{fails_now, one_more};
     ghost use Rattle.vd_disk.specs.Disk.{Leaves, Syncs, WhenTold, Writes};
     ghost use Rattle.vd_disk.specs.MemDisk.{calls_of, mem_disk_seen, mem_disk_tale, mem_disk_tells};
@@ -304,6 +417,32 @@ mod tests {
             (Some(2), Some(3))
         );
         assert_eq!(rt; disk.calls(), 4);
+    }
+
+    #[test]
+    fn a_longer_disk_has_zeros(rt: HostRuntime) {
+        let alloc = rt.alloc();
+        let mut disk = MemDisk::new(alloc, 1, Vec::new(alloc)).expect(&rt, "memory");
+        disk.write(0, &sector(1)).expect(&rt, "no call is to fail");
+        for (size, there) in [(1, 1), (0, 1), (3, 3)] {
+            disk.lengthen(alloc, size).expect(&rt, "memory");
+            assert_eq!(rt; disk.sectors(), there);
+        }
+        assert!(rt; disk.sectors() == 3);
+        disk.write(2, &sector(4)).expect(&rt, "no call is to fail");
+        // Sector 0 may have 0 or 1, sector 1 has 0, and sector 2 may have 0 or 4.
+        for (pick, first, last) in [(0, 0, 0), (1, 1, 4), (2, 0, 0)] {
+            let image = disk.image(alloc, pick).expect(&rt, "memory");
+            assert_eq!(rt; byte_of(&image, 0), Some(first), "sector 0 at {pick}");
+            assert_eq!(rt; byte_of(&image, 1), Some(0), "sector 1 at {pick}");
+            assert_eq!(rt; byte_of(&image, 2), Some(last), "sector 2 at {pick}");
+        }
+        disk.sync().expect(&rt, "no call is to fail");
+        let image = disk.image(alloc, 1).expect(&rt, "memory");
+        assert_eq!(rt;
+            (byte_of(&image, 0), byte_of(&image, 2)),
+            (Some(1), Some(4))
+        );
     }
 
     #[test]

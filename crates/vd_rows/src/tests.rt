@@ -529,24 +529,28 @@ fn unread_journal(rt: &impl Abort, alloc: Global) {
     );
 }
 
-/// Blocks 0 and 1 are settled at 3, the second with a stale sector; the read of the first fails.
+/// Block 0 is settled at 3, and its read fails: first alone, then beside a block with a stale sector.
 fn unread_block(rt: &impl Abort, alloc: Global) {
-    let mut sectors = created(rt, alloc);
-    put(rt, &mut sectors, &(2, 0, &[3, 0, 3, 0]));
-    let bytes = data(rt, alloc, 0, &[(0, 0, 8, 3), (1, 0, 8, 3), (1, 7, 8, 2)]);
-    let mut yard = yard(rt, alloc, sectors, Vec::new(alloc));
-    let failing = Vec::from_slice(alloc, &[(0, 0, 0)]).expect(rt, "memory");
-    yard.put_data(text(rt, alloc, "/d/a"), bytes, failing)
-        .expect(rt, "memory");
-    let wanted =
+    let alone =
+        "journal sd1 epoch 0 records 0\nreadfault sd1 block 0\nverified sd1 blocks 0 corrupt 0 pending 0 bad 0 faults 1\nstatus 2\n";
+    let beside =
         "journal sd1 epoch 0 records 0\nreadfault sd1 block 0\ncorrupt sd1 block 1 sector 7 address 7680 part key keys 3\nverified sd1 blocks 1 corrupt 1 pending 0 bad 0 faults 1\nstatus 2\n";
-    expect(
-        rt,
-        alloc,
-        "first read of the data",
-        RECOVER,
-        &mut yard,
-        wanted,
-        2,
-    );
+    for (map, wanted) in [([3, 0, 0, 0], alone), ([3, 0, 3, 0], beside)] {
+        let mut sectors = created(rt, alloc);
+        put(rt, &mut sectors, &(2, 0, &map));
+        let bytes = data(rt, alloc, 0, &[(0, 0, 8, 3), (1, 0, 8, 3), (1, 7, 8, 2)]);
+        let mut yard = yard(rt, alloc, sectors, Vec::new(alloc));
+        let failing = Vec::from_slice(alloc, &[(0, 0, 0)]).expect(rt, "memory");
+        yard.put_data(text(rt, alloc, "/d/a"), bytes, failing)
+            .expect(rt, "memory");
+        expect(
+            rt,
+            alloc,
+            "first read of the data",
+            RECOVER,
+            &mut yard,
+            wanted,
+            2,
+        );
+    }
 }

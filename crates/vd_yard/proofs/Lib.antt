@@ -7,3 +7,4 @@ pub mod HeldBytes
 pub mod Came
 pub mod Seen
 pub mod Opened
+pub mod Hands

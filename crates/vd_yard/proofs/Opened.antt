@@ -4,8 +4,8 @@ use Rattle.std.specs.Prelude.{IsSome, IsTrue, OnOk, OnErr, MatchOption}
 use Rattle.vd_disk.specs.declared.memory.MemDisk.{MemDisk}
 use Rattle.vd_yard.specs.declared.data.Held.{Held}
 use Rattle.vd_yard.specs.declared.source_file.SourceFile.{SourceFile}
-use Rattle.vd_yard.specs.Kept.{Kept, kept_at, keep_at, keep_at_here, keep_at_other, nothing_kept, nothing_kept_at}
-use Rattle.vd_yard.specs.MemYard.{files_in, sure_at}
+use Rattle.vd_yard.specs.Kept.{Kept, kept_at, kept_at_kept_of, keep_at, keep_at_here, keep_at_other, nothing_kept, nothing_kept_at}
+use Rattle.vd_yard.specs.MemYard.{disk_seen, disks_in, files_in, sure_at}
 use Rattle.vd_yard.specs.ArmPlan.{arms_sure}
 use Rattle.vd_yard.specs.SourceFile.{file_sure}
 use Rattle.vd_yard.specs.declared.arm_plan.ArmPlan.{ArmPlan}
@@ -28,19 +28,19 @@ none_is_not None e some = cc
 none_is_not (Some x) e some = cc
 
 -- A source or a disk that isn't found isn't told to be there.
-pub source_not_there : (files : Kept SourceFile) (disks : Kept MemDisk) (contents : Kept Held) (path : List ℕ) → kept_at files path ≡ None →
+pub source_not_there : (files : Kept SourceFile) (disks : Kept (Option MemDisk)) (contents : Kept Held) (path : List ℕ) → kept_at files path ≡ None →
     IsTrue (is_there (files_in files disks contents) AtSource path) → ⊥
 source_not_there files disks contents path none there =
     none_is_not (kept_at files path) none (sym (is_there_at (files_in files disks contents) AtSource path) ∙ there)
 
-pub disk_not_there : (files : Kept SourceFile) (disks : Kept MemDisk) (contents : Kept Held) (path : List ℕ) → kept_at disks path ≡ None →
+pub disk_not_there : (files : Kept SourceFile) (disks : Kept (Option MemDisk)) (contents : Kept Held) (path : List ℕ) → kept_at (disks_in disks) path ≡ None →
     IsTrue (is_there (files_in files disks contents) AtDisk path) → ⊥
 disk_not_there files disks contents path none there =
-    none_is_not (kept_at disks path) none (sym (is_there_at (files_in files disks contents) AtDisk path) ∙ there)
+    none_is_not (disk_seen (kept_at disks path)) (sym (kept_at_kept_of (λ q. disk_seen (kept_at disks q)) path) ∙ none) (sym (is_there_at (files_in files disks contents) AtDisk path) ∙ there)
 
 -- Files stay, where what is there at each path does.
-pub all_stay : (files files' : Kept SourceFile) (disks disks' : Kept MemDisk) (contents contents' : Kept Held) →
-    ((q : List ℕ) → IsSome (kept_at files q) → IsSome (kept_at files' q)) → ((q : List ℕ) → IsSome (kept_at disks q) → IsSome (kept_at disks' q)) →
+pub all_stay : (files files' : Kept SourceFile) (disks disks' : Kept (Option MemDisk)) (contents contents' : Kept Held) →
+    ((q : List ℕ) → IsSome (kept_at files q) → IsSome (kept_at files' q)) → ((q : List ℕ) → IsSome (disk_seen (kept_at disks q)) → IsSome (disk_seen (kept_at disks' q))) →
     ((q : List ℕ) → IsSome (kept_at contents q) → IsSome (kept_at contents' q)) → StaysThere (files_in files disks contents) (files_in files' disks' contents')
 all_stay files files' disks disks' contents contents' file disk held = stays_there_by (files_in files disks contents) (files_in files' disks' contents') (λ kind. stay kind)
   where
@@ -50,8 +50,8 @@ all_stay files files' disks disks' contents contents' file disk held = stays_the
     stay AtPasses path there = held path there
     stay AtArm path there = held path there
 
-pub files_stay : (files : Kept SourceFile) (disks disks' : Kept MemDisk) (contents contents' : Kept Held) →
-    ((q : List ℕ) → IsSome (kept_at disks q) → IsSome (kept_at disks' q)) → ((q : List ℕ) → IsSome (kept_at contents q) → IsSome (kept_at contents' q)) →
+pub files_stay : (files : Kept SourceFile) (disks disks' : Kept (Option MemDisk)) (contents contents' : Kept Held) →
+    ((q : List ℕ) → IsSome (disk_seen (kept_at disks q)) → IsSome (disk_seen (kept_at disks' q))) → ((q : List ℕ) → IsSome (kept_at contents q) → IsSome (kept_at contents' q)) →
     StaysThere (files_in files disks contents) (files_in files disks' contents')
 files_stay files disks disks' contents contents' disk held = all_stay files files disks disks' contents contents' (λ q there. there) disk held
 
@@ -105,12 +105,12 @@ all_sure files plans f p AtDisk path = refl
 all_sure files plans f p AtPasses path = refl
 all_sure files plans f p AtArm path = ap arms_sure (empty_at plans p path)
 
-pub none_is_there : (files : Kept SourceFile) (disks : Kept MemDisk) (contents : Kept Held) → files ≡ nothing_kept → disks ≡ nothing_kept → contents ≡ nothing_kept →
+pub none_is_there : (files : Kept SourceFile) (disks : Kept (Option MemDisk)) (contents : Kept Held) → files ≡ nothing_kept → disks ≡ nothing_kept → contents ≡ nothing_kept →
     (kind : Kind) (path : List ℕ) → is_there (files_in files disks contents) kind path ≡ false
 none_is_there files disks contents f d h kind path = is_there_at (files_in files disks contents) kind path ∙ go kind
   where
     go : (kind : Kind) → (files_in files disks contents).at kind path ≡ false
     go AtSource = ap is_some (empty_at files f path)
-    go AtDisk = ap is_some (empty_at disks d path)
+    go AtDisk = ap (λ (o : Option (Option MemDisk)). is_some (disk_seen o)) (empty_at disks d path)
     go AtPasses = ap is_some (empty_at contents h path)
     go AtArm = ap is_some (empty_at contents h path)

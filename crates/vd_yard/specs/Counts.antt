@@ -122,6 +122,21 @@ pub good_writes_here : (c : Counts) (p : List ℕ) (f r w : ℕ) → good_writes
 unfolding good_writes add_arm
 good_writes_here c p f r w = ap (λ (s : PathCounts). s.good_writes) (picked (bytes_eq p p) _ _ ((bytes_eq-Decides p p).1 refl))
 
+pub good_reads : Counts → List ℕ → ℕ
+good_reads c q = (c.at q).good_reads
+
+pub good_reads_here : (c : Counts) (p : List ℕ) (f r w : ℕ) → good_reads (add_arm c p f r w) p ≡ (good_reads c p + r) % 2 ^ 64
+unfolding good_reads add_arm
+good_reads_here c p f r w = ap (λ (s : PathCounts). s.good_reads) (picked (bytes_eq p p) _ _ ((bytes_eq-Decides p p).1 refl))
+
+pick_reads : (b : Bool) (c d : PathCounts) → (cond b c d).good_reads ≡ cond b c.good_reads d.good_reads
+pick_reads true c d = refl
+pick_reads false c d = refl
+
+pub good_reads_of_source : (c : Counts) (p : List ℕ) (n : ℕ) (q : List ℕ) → good_reads (add_source c p n) q ≡ good_reads c q
+unfolding good_reads add_source
+good_reads_of_source c p n q = rw (pick_reads (bytes_eq p q)) (same_cond (bytes_eq p q) _)
+
 pick_writes : (b : Bool) (c d : PathCounts) → (cond b c d).good_writes ≡ cond b c.good_writes d.good_writes
 pick_writes true c d = refl
 pick_writes false c d = refl

@@ -14,3 +14,4 @@ pub mod ArmPlan
 pub mod SourceFile
 pub mod MemYard
 pub mod Puts
+pub mod Hands

@@ -17,13 +17,14 @@ use Rattle.vd_yard.specs.declared.source_file.SourceFile.{SourceFile}
 use Rattle.vd_yard.specs.declared.arm_plan.ArmPlan.{ArmPlan}
 use Rattle.vd_yard.specs.declared.memory.MemYard.{MemYard}
 
--- of a disk that is there all that is seen of it
-abbrev pub disk_seen : Option MemDisk → Option DiskSeen
+-- of a disk that is there all that is seen of it; an entry without one is that of a disk that was made and hasn't come back yet
+abbrev pub disk_seen : Option (Option MemDisk) → Option DiskSeen
 disk_seen None = None
-disk_seen (Some disk) = Some (mem_disk_seen disk)
+disk_seen (Some None) = None
+disk_seen (Some (Some disk)) = Some (mem_disk_seen disk)
 
 -- the disks that are kept, path by path
-abbrev pub disks_in : Kept MemDisk → Kept DiskSeen
+abbrev pub disks_in : Kept (Option MemDisk) → Kept DiskSeen
 disks_in disks = kept_of (λ path. disk_seen (kept_at disks path))
 
 abbrev pub sure_at : Kept SourceFile → Kept ArmPlan → Kind → List ℕ → Bool
@@ -40,13 +41,13 @@ tells_in files plans = record {
   keeps_contents = true;
 }
 
-abbrev pub there_at : Kept SourceFile → Kept MemDisk → Kept Held → Kind → List ℕ → Bool
+abbrev pub there_at : Kept SourceFile → Kept (Option MemDisk) → Kept Held → Kind → List ℕ → Bool
 there_at files disks contents AtSource path = is_some (kept_at files path)
-there_at files disks contents AtDisk path = is_some (kept_at disks path)
+there_at files disks contents AtDisk path = is_some (disk_seen (kept_at disks path))
 there_at files disks contents AtPasses path = is_some (kept_at contents path)
 there_at files disks contents AtArm path = is_some (kept_at contents path)
 
-abbrev pub files_in : Kept SourceFile → Kept MemDisk → Kept Held → Files
+abbrev pub files_in : Kept SourceFile → Kept (Option MemDisk) → Kept Held → Files
 files_in files disks contents = record { at = λ kind path. there_at files disks contents kind path }
 
 abbrev pub mem_yard_seen : MemYard → YardSeen

@@ -1,5 +1,5 @@
 // The yard of the real files. It tells nothing of contents, and keeps only what is out and the counts.
-ghost use Rattle.std.specs.Prelude.{◌≡◌, ◌≤◌, IfOk, map};
+ghost use Rattle.std.specs.Prelude.{◌≡◌, ◌≤◌, IfOk, IfSome, map};
 ghost use Rattle.vd_yard.specs.Contents.{AreBlocks, told_bytes};
 ghost use Rattle.vd_yard.specs.Kept.{keep_at};
 ghost use Rattle.vd_yard.specs.Out.{AtPasses, out_at};
@@ -13,7 +13,7 @@ use std::fs::File;
 use std::io::{Seek, SeekFrom};
 use vd_arm::{FileArm, FilePass, Pass};
 use vd_base::{BlockNo, Geometry};
-use vd_disk::FileDisk;
+use vd_disk::{Disk, FileDisk};
 use vd_outside::{FileSource, Text};
 
 /// Real files and devices. What is opened for writing is opened for reading alone where writing is refused, so that a command that only
@@ -69,6 +69,22 @@ fn disk_at(rt: &HostRuntime, path: &str) -> Option<FileDisk> {
     let mut file = opened(rt, path)?;
     let length = length_of(&mut file)?;
     Some(FileDisk::new(file, length / 512))
+}
+
+/// A disk of at least so many sectors, of a file that is made where it isn't there and lengthened by zeros where it is short.
+fn new_disk_at(rt: &HostRuntime, path: &str, sectors: u64) -> Option<FileDisk>
+    ensures { IfSome result (λ disk. sectors ≤ (⟦<FileDisk as Disk>⟧.seen disk).sectors) }
+{
+    let bytes = sectors.checked_mul(512)?;
+    let mut file = made(rt, path)?;
+    if !is_lengthened(&mut file, bytes) {
+        return None;
+    }
+    let there = length_of(&mut file)? / 512;
+    if there < sectors {
+        return None;
+    }
+    Some(FileDisk::new(file, there))
 }
 
 /// Whether the file of a store could be made as long as the store, or is.
@@ -145,6 +161,17 @@ impl<'a> Yard for HostYard<'a> {
         }
     }
 
+    fn new_disk(&mut self, path: &Text, sectors: u64) -> Result<FileDisk, YardFault> {
+        let Some(disk) = new_disk_at(self.rt, path.as_str(), sectors) else {
+            self.faults = self.faults.saturating_add(1);
+            return Err(YardFault::Failed);
+        };
+        match self.ledger.open(self.alloc, Thing::Disk, path) {
+            Ok(()) => Ok(disk),
+            Err(_) => Err(YardFault::NoMemory),
+        }
+    }
+
     fn passes(&mut self, store: &StorePlan) -> Result<Vec<FilePass>, YardFault> {
         if !is_ready(self.rt, store.path.as_str(), &store.id.geometry) {
             self.faults = self.faults.saturating_add(1);
@@ -208,7 +235,6 @@ mod tests {
     use std::{env, fs};
     use vd_arm::Arm;
     use vd_base::{StoreId, StoreName};
-    use vd_disk::Disk;
     use vd_outside::Source;
 
     fn text<R: Abort + AllocGlobal>(rt: &R, of: &str) -> Text {
@@ -230,6 +256,18 @@ mod tests {
     #[tactic(auto, using(crate::specs::Out::one_more_here))]
     fn sectors_at(yard: &mut HostYard<'_>, path: &Text) -> Option<u64> {
         match yard.disk(path) {
+            Ok(disk) => {
+                let sectors = disk.sectors();
+                yard.keep_disk(path, disk);
+                Some(sectors)
+            }
+            Err(_) => None,
+        }
+    }
+
+    #[tactic(auto, using(crate::specs::Out::one_more_here))]
+    fn new_sectors_at(yard: &mut HostYard<'_>, path: &Text, sectors: u64) -> Option<u64> {
+        match yard.new_disk(path, sectors) {
             Ok(disk) => {
                 let sectors = disk.sectors();
                 yard.keep_disk(path, disk);
@@ -295,6 +333,11 @@ mod tests {
         assert_eq!(rt; read_by_arm(&mut yard, &store, 4), None);
         fs::remove_file(&rt, store.path.as_str()).expect(&rt, "the file that was just made");
         assert_eq!(rt; read_once(&mut yard, &store.path, &mut out), None);
+        // A disk is made, then long enough, and never shortened.
+        for (sectors, there) in [(2, Some(2)), (5, Some(5)), (1, Some(5)), (u64::MAX, None)] {
+            assert_eq!(rt; new_sectors_at(&mut yard, &store.path, sectors), there);
+        }
+        fs::remove_file(&rt, store.path.as_str()).expect(&rt, "the disk that was just made");
         assert_eq!(rt; sectors_at(&mut yard, &text(&rt, temporary.as_str())), None);
     }
 }

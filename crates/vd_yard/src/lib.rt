@@ -6,6 +6,7 @@
 
 mod arm_plan;
 mod data;
+mod disks;
 mod fault;
 mod host;
 mod ledger;

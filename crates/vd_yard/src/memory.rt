@@ -12,6 +12,7 @@ ghost use Rattle.vd_yard.specs.Yard.{GivesBack};
 
 use crate::arm_plan::{ArmPlan, count_arm, next_arm};
 use crate::data::{Held, make_entry, passes_at};
+use crate::disks::{kept_disk, long_disk, make_disk_entry};
 use crate::ledger::{Ledger, Thing};
 use crate::path_map::PathMap;
 use crate::refusals::Refusals;
@@ -31,7 +32,7 @@ pub struct MemYard {
     faults: u64,
     ledger: Ledger,
     files: PathMap<SourceFile>,
-    disks: PathMap<MemDisk>,
+    disks: PathMap<Option<MemDisk>>,
     contents: PathMap<Held>,
     arm_plans: PathMap<ArmPlan>,
     arms_opened: PathMap<u32>,
@@ -81,7 +82,7 @@ impl MemYard {
         ensures puts { OnOk result (PutsDisk path (mem_disk_seen disk) (mem_yard_seen self.old) (mem_yard_seen self.new)) }
         ensures err { OnErr result (mem_yard_seen self.new ≡ mem_yard_seen self.old) }
     {
-        self.disks.put(path, disk)
+        self.disks.put(path, Some(disk))
     }
 
     /// Makes one call on a path fail: the one before which so many go on, of the openings at this path from now on.
@@ -104,7 +105,7 @@ impl MemYard {
     pub fn disk_at(&self, path: &Text) -> Option<&MemDisk>
         ensures { MatchOption result (kept_at (mem_yard_seen self.now).disks path.now ≡ None) (λ disk. kept_at (mem_yard_seen self.now).disks path.now ≡ Some (mem_disk_seen disk.now)) }
     {
-        self.disks.get(path.as_bytes())
+        kept_disk(&self.disks, path.as_bytes())
     }
 
     /// A copy of the bytes that are kept at a path.
@@ -153,6 +154,7 @@ impl Yard for MemYard {
     ghost use Rattle.vd_yard.specs.Refusals.{after_call, hits};
     ghost use Rattle.vd_yard.specs.Yard.{HasFiles, Opens, is_there};
     ghost use Rattle.vd_yard.specs.Contents.{AreBlocks, TellFile};
+    ghost use Rattle.vd_yard.specs.Hands.{HandsOut};
     ghost use Rattle.vd_yard.specs.Kept.{bytes_at};
 
     type Source = MemSource;
@@ -204,11 +206,36 @@ impl Yard for MemYard {
             self.faults = self.faults.saturating_add(1);
             return Err(YardFault::Failed);
         }
-        let Some(disk) = self.disks.get(path.as_bytes()) else {
+        let Some(disk) = kept_disk(&self.disks, path.as_bytes()) else {
             self.faults = self.faults.saturating_add(1);
             return Err(YardFault::Failed);
         };
         let Ok(disk) = disk.copy(self.alloc) else {
+            return Err(YardFault::NoMemory);
+        };
+        match self.ledger.open(self.alloc, Thing::Disk, path) {
+            Ok(()) => Ok(disk),
+            Err(_) => Err(YardFault::NoMemory),
+        }
+    }
+
+    fn new_disk(&mut self, path: &Text, sectors: u64) -> Result<MemDisk, YardFault>
+        ensures opens { Opens AtDisk path.now (mem_yard_seen self.old) (mem_yard_seen self.new) result }
+        ensures willing { IsTrue (mem_yard_seen self.old).willing → IsErrOf result YardFault.Failed → ⊥ }
+        ensures size { IfOk result (λ disk. sectors ≤ (mem_disk_seen disk).sectors) }
+        ensures hands { IsTrue (mem_yard_seen self.old).tells.keeps_disks →
+            IfOk result (λ disk. HandsOut (kept_at (mem_yard_seen self.old).disks path.now) (mem_disk_seen disk)) }
+        ensures refused { IsTrue (list_any (hits path.now) (refusals_of self.old)) → IsErrOf result YardFault.Failed }
+        ensures counted { refusals_of self.new ≡ map (after_call path.now) (refusals_of self.old) }
+    {
+        if self.refusals.is_next_refused(path) {
+            self.faults = self.faults.saturating_add(1);
+            return Err(YardFault::Failed);
+        }
+        let Ok(disk) = long_disk(self.alloc, &self.disks, path.as_bytes(), sectors) else {
+            return Err(YardFault::NoMemory);
+        };
+        let Ok(()) = make_disk_entry(self.alloc, &mut self.disks, path) else {
             return Err(YardFault::NoMemory);
         };
         match self.ledger.open(self.alloc, Thing::Disk, path) {
@@ -278,7 +305,7 @@ impl Yard for MemYard {
     }
 
     fn keep_disk(&mut self, path: &Text, disk: MemDisk) {
-        self.disks.replace(path.as_bytes(), disk);
+        self.disks.replace(path.as_bytes(), Some(disk));
         self.ledger.close_disk(path);
     }
 
@@ -361,6 +388,20 @@ mod tests {
         }
     }
 
+    /// Opens or makes a disk of so many sectors, writes the last one and gives it back, and says how many there are.
+    #[tactic(auto, using(crate::specs::Out::one_more_here))]
+    fn write_last(yard: &mut MemYard, path: &Text, sectors: u64) -> Option<u64> {
+        match yard.new_disk(path, sectors) {
+            Ok(mut disk) => {
+                let there = disk.sectors();
+                let is_written = there > 0 && disk.write(there - 1, &[8; 512]).is_ok();
+                yard.keep_disk(path, disk);
+                if is_written { Some(there) } else { None }
+            }
+            Err(_) => None,
+        }
+    }
+
     /// Opens the passes of a store and gives them back, and says the last byte of block 0 and the first two of block 1.
     #[tactic(auto, using(crate::specs::Out::one_more_here))]
     fn look_at_passes(
@@ -429,6 +470,36 @@ mod tests {
             .disk_at(&path)
             .and_then(|disk| disk.contents().get(0).map(|sector| sector[511]));
         assert_eq!(rt; kept, Some(7));
+    }
+
+    #[test]
+    fn a_disk_is_made_and_made_longer(rt: HostRuntime) {
+        let alloc = rt.alloc();
+        let mut yard = MemYard::new(alloc);
+        let path = text(&rt, "a.jnl");
+        for (sectors, there) in [(2, 2), (1, 2), (4, 4)] {
+            assert_eq!(rt;
+                write_last(&mut yard, &path, sectors),
+                Some(there),
+                "{sectors}"
+            );
+        }
+        assert!(rt; write_once(&mut yard, &path, 7));
+        let kept = yard.disk_at(&path).expect(&rt, "a disk that came back");
+        let bytes: Vec<u8> = kept
+            .contents()
+            .iter()
+            .map(|sector| sector[0])
+            .collect(alloc)
+            .expect(&rt, "memory");
+        assert_eq!(rt; bytes.as_slice(), [7, 8, 0, 8].as_slice());
+        // A stop may leave the zeros that the last write found.
+        let image = kept.image(alloc, 0).expect(&rt, "memory");
+        let first_byte = |at: usize| image.get(at).map(|sector| sector[0]);
+        assert_eq!(rt; (first_byte(1), first_byte(3)), (Some(0), Some(0)));
+        yard.refuse(text(&rt, "a.jnl"), 0).expect(&rt, "memory");
+        assert_eq!(rt; write_last(&mut yard, &path, 1), None);
+        assert_eq!(rt; yard.faults(), 1);
     }
 
     #[test]

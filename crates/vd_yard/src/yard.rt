@@ -5,6 +5,7 @@ ghost use Rattle.vd_yard.specs.Out.{AtSource, AtDisk, AtPasses, AtArm, out_at};
 ghost use Rattle.vd_yard.specs.Counts.{add_source, add_arm};
 ghost use Rattle.vd_yard.specs.Kept.{kept_at, keep_at, bytes_at};
 ghost use Rattle.vd_yard.specs.Contents.{AreBlocks, TellFile, told_bytes};
+ghost use Rattle.vd_yard.specs.Hands.{HandsOut};
 ghost use Rattle.vd_yard.specs.Yard.{YardSeen, Opens, GivesBack, is_there, HasFiles};
 
 use crate::YardFault;
@@ -39,6 +40,15 @@ pub trait Yard {
         ensures willing { IsTrue (seen self.old).willing → IsTrue (is_there (seen self.old).files AtDisk path.now) → IsErrOf result YardFault.Failed → ⊥ }
         ensures absent { IsTrue (seen self.old).tells.keeps_disks → kept_at (seen self.old).disks path.now ≡ None → OnOk result ⊥ }
         ensures told { (kept : DiskSeen) → kept_at (seen self.old).disks path.now ≡ Some kept → IfOk result (λ d. Self.Disk.seen d ≡ kept) };
+
+    /// Opens the disk at a path, or makes it where it isn't there, and sees to it that it has at least so many sectors. What stood there
+    /// stays, and a lengthening is one moment more.
+    fn new_disk(&mut self, path: &Text, sectors: u64) -> Result<Self::Disk, YardFault>
+        ensures opens { Opens AtDisk path.now (seen self.old) (seen self.new) result }
+        ensures willing { IsTrue (seen self.old).willing → IsErrOf result YardFault.Failed → ⊥ }
+        ensures size { IfOk result (λ d. sectors ≤ (Self.Disk.seen d).sectors) }
+        ensures hands { IsTrue (seen self.old).tells.keeps_disks →
+            IfOk result (λ d. HandsOut (kept_at (seen self.old).disks path.now) (Self.Disk.seen d)) };
 
     /// The passes of a store, one for each block. Its file is made where it isn't there, and lengthened by zeros where it is short.
     fn passes(&mut self, store: &StorePlan) -> Result<Vec<<Self::Arm as Arm>::Pass>, YardFault>

@@ -4,7 +4,7 @@
 use run_report::{Printer, Status, last_lines};
 use std::process::ExitCode;
 use std::{env, io};
-use vd_outside::StdSink;
+use vd_outside::{Sink, StdSink};
 use vd_yard::HostYard;
 use vdbench_top::vdbench_still;
 
@@ -28,12 +28,22 @@ fn words_of(rt: &HostRuntime) -> Option<Vec<String>> {
     Some(words)
 }
 
+/// Says that memory ran out, and answers the status to end with.
+fn without_memory<S: Sink>(out: &mut S) -> Status {
+    let mut printer = Printer::new();
+    printer.say(out, last_lines(Status::NoMemory));
+    if printer.failed {
+        Status::Sink
+    } else {
+        Status::NoMemory
+    }
+}
+
 /// Ends with the status of the command that the words say.
 fn main(rt: HostRuntime) -> ExitCode {
     let mut out = StdSink::new(io::writer(&rt));
     let Some(words) = words_of(&rt) else {
-        Printer::new().say(&mut out, last_lines(Status::NoMemory));
-        return ExitCode::from(Status::NoMemory.number());
+        return ExitCode::from(without_memory(&mut out).number());
     };
     let mut yard = HostYard::new(&rt);
     let status = vdbench_still(rt.alloc(), words.as_slice(), &mut yard, &mut out);

@@ -1,6 +1,6 @@
 -- What is said of one store.
 use Rattle.std.proofs.Common.{◌≡◌, ℕ, Bool, IsTrue, List, sym, ◌∙◌, ap, subst, inl, inr, ◌⊎◌, Result, Ok, Err, IfOk, append-nil}
-use Rattle.std.specs.Prelude.{Option, count_by}
+use Rattle.std.specs.Prelude.{Option}
 use Rattle.vd_outside.specs.Causes.{Rose}
 use Rattle.vd_outside.specs.declared.text.NoMemory.{NoMemory}
 use Rattle.vd_arm.specs.Arm.{PassSeen}
@@ -8,21 +8,21 @@ use Rattle.vd_yard.specs.Yard.{YardSeen, HasFiles}
 use Rattle.plan_types.specs.declared.store.StorePlan.{StorePlan}
 use Rattle.key_state.specs.declared.entry.Entry.{Entry}
 use Rattle.recover_run.specs.declared.look.Look.{Look}
-use Rattle.recover_run.specs.Looks.{AreLooks, is_unread}
+use Rattle.recover_run.specs.Looks.{AreLooks}
 use Rattle.run_report.specs.declared.finding.Verified.{Verified}
 use Rattle.run_report.specs.declared.status.Status.{Status}
 use Rattle.run_report.specs.declared.status.Status.TheVariants as status
 use Rattle.run_report.specs.Lines.{journal_text, cannot_open_text}
 use Rattle.run_report.specs.Says.{Printing, Says, printing, says_then, says_along}
 use Rattle.vdbench_top.specs.Recovery.{SaysLine, SaysOr}
-use Rattle.vdbench_top.specs.Verification.{store_text, counted_of, counted_status, ArePassesOf, FaultsRose, CameSoFar, not_begun, begun}
+use Rattle.vdbench_top.specs.Verification.{store_text, counted_of, counted_status, ArePassesOf, CountsRose, CameSoFar, not_begun, begun}
 use Rattle.vdbench_top.specs.Still.{SaysStore, whole, unopened, early_line, early_blocks}
 
 pub says_or : (line : Result (List ℕ) NoMemory) (want : List ℕ) (with result : Status) (a b : Printing) → IfOk line (λ l. l ≡ want) → SaysLine line with result a b → SaysOr want with result a b
 says_or (Ok line) want with result a b e p = inl (p.0, says_along a b line want e p.1)
 says_or (Err e) want with result a b is p = inr p
 
-pub whole_store : (old new : YardSeen) (store : StorePlan) (epoch records : ℕ) (entries es : List Entry) (counted : Verified) (result : Status) (a b c : Printing) (passes : List PassSeen) (looks : List Look) → es ≡ entries → ArePassesOf old store passes → AreLooks store.id es passes looks → counted ≡ counted_of es looks → FaultsRose old new store.path (count_by is_unread looks) → result ≡ counted_status counted → Says a b (journal_text store.id.name epoch records) → Says b c (store_text store.id es looks) → SaysStore old new store epoch records entries result a c
+pub whole_store : (old new : YardSeen) (store : StorePlan) (epoch records : ℕ) (entries es : List Entry) (counted : Verified) (result : Status) (a b c : Printing) (passes : List PassSeen) (looks : List Look) → es ≡ entries → ArePassesOf old store passes → AreLooks store.id es passes looks → counted ≡ counted_of es looks → CountsRose old new store.path looks → result ≡ counted_status counted → Says a b (journal_text store.id.name epoch records) → Says b c (store_text store.id es looks) → SaysStore old new store epoch records entries result a c
 whole_store old new store epoch records entries es counted result a b c passes looks e p q r f s t u =
     subst (λ (x : List Entry). SaysStore old new store epoch records x result a c) e
     (whole passes looks p q f (s ∙ ap counted_status r) (says_then a b c _ _ t u))

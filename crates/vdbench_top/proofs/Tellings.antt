@@ -1,11 +1,11 @@
 -- From what is said of one store to what is said of a parameter file.
-use Rattle.std.proofs.Common.{◌≡◌, ℕ, zero, suc, ◌+◌, ◌-◌, ◌^◌, ◌<◌, ◌≤◌, min, Bool, true, false, cond, IsTrue, List, [], ◌++◌, length, take, refl, sym, ◌∙◌, ap, subst, arith, rules, inl, inr, ◌⊎◌, Ok, Err}
+use Rattle.std.proofs.Common.{◌≡◌, ℕ, zero, suc, ◌+◌, ◌-◌, ◌^◌, ◌<◌, ◌≤◌, min, Bool, true, false, cond, IsTrue, List, [], ◌++◌, length, take, refl, sym, ◌∙◌, ap, subst, arith, rules, inl, inr, ◌⊎◌, Result, Ok, Err}
 use Rattle.std.specs.Prelude.{Option, Some, None, count_by, ◌≢◌, ◌==◌}
 use Rattle.vd_outside.specs.Causes.{Rose}
 use Rattle.vd_base.specs.declared.geometry.StoreId.{StoreId}
 use Rattle.vd_disk.specs.Disk.{DiskSeen, Sectors}
-use Rattle.vd_arm.specs.Arm.{PassSeen}
-use Rattle.vd_yard.specs.Counts.{Counts, arm_faults, source_faults}
+use Rattle.vd_arm.specs.Arm.{PassSeen, Counted}
+use Rattle.vd_yard.specs.Counts.{Counts, arm_faults, good_reads, source_faults}
 use Rattle.vd_yard.specs.Kept.{Kept, kept_at, bytes_at}
 use Rattle.vd_yard.specs.Contents.{TellFile}
 use Rattle.vd_yard.specs.Out.{AtDisk, AtSource, AtArm}
@@ -13,12 +13,13 @@ use Rattle.vd_yard.specs.Yard.{YardSeen, Tells, StaysThere, is_there}
 use Rattle.plan_types.specs.declared.store.StorePlan.{StorePlan}
 use Rattle.key_state.specs.declared.entry.Entry.{Entry}
 use Rattle.journal_layout.specs.declared.damage.Damage.{Damage}
-use Rattle.journal_layout.specs.Recovery.{Outcome, Gives, NoJournal, Mismatch, Damaged}
+use Rattle.journal_layout.specs.Recovery.{Outcome, Gives, GivesOnce, NoJournal, Mismatch, Damaged, Recovers}
 use Rattle.journal_recover.specs.Answers.{Answers}
 use Rattle.journal_recover.specs.declared.found.Recovered.{Recovered}
 use Rattle.journal_recover.specs.declared.fault.RecoverFault.{RecoverFault}
 use Rattle.journal_recover.specs.declared.fault.RecoverFault.TheVariants as refusal
-use Rattle.recover_run.specs.Looks.{is_unread}
+use Rattle.recover_run.specs.Looks.{is_seen, is_unread}
+use Rattle.recover_run.specs.declared.look.Look.{Look}
 use Rattle.run_report.specs.declared.status.Status.{Status}
 use Rattle.run_report.specs.declared.status.Status.TheVariants as status
 use Rattle.run_report.specs.Lines.{journal_text, form_not_built_text, cannot_read_text, cannot_open_text, journal_fault_text}
@@ -26,9 +27,10 @@ use Rattle.run_report.specs.Says.{Printing, Says, says_then}
 use Rattle.vdbench_top.specs.Form.{store_in}
 use Rattle.vdbench_top.specs.Frame.{JournalsStay}
 use Rattle.vdbench_top.proofs.Pieces.{counted_faults}
-use Rattle.vdbench_top.specs.Recovery.{SaysOr, SaysRefusal, outcome_text, outcome_status}
-use Rattle.vdbench_top.specs.Verification.{store_text, lines_of, counted_of, ArePassesOf, RoseBy, FaultsRose}
-use Rattle.vdbench_top.specs.Still.{Report, report, Finds, no_form, refused, verified, verified_report, Faults, no_source, source_failed, no_journal_disk, journal_failed, no_data, Fronts, nothing, recovered, verifying, IsStill, IsSaid, found, still, fault, cut, IsTold, IsHonest, SaysStore, whole, unopened, early_none, early_line, early_blocks, SaidOfStore, SaidOfBytes, IsJournalTold, JournalTold, is_there_told, is_missing, Causes, Ends}
+use Rattle.vd_outside.specs.declared.text.NoMemory.{NoMemory}
+use Rattle.vdbench_top.specs.Recovery.{SaysOr, SaysLine, SaysRefusal, outcome_text, outcome_status}
+use Rattle.vdbench_top.specs.Verification.{store_text, lines_of, counted_of, ArePassesOf, RoseBy, CountsRose}
+use Rattle.vdbench_top.specs.Still.{Report, report, Finds, no_form, refused, verified, verified_report, Faults, no_source, source_failed, no_journal_disk, journal_failed, no_data, Fronts, nothing, recovered, verifying, IsStill, IsSaid, found, still, fault, cut, IsTold, IsHonest, SaysStore, whole, unopened, early_none, early_line, early_blocks, SaidOfStore, SaidOfBytes, IsJournalTold, JournalTold, is_there_told, is_missing, Causes, Ends, DiskFailed, JournalRefused, journal_missing, journal_refused, FindsNoData, form_not_built, no_recovery}
 use Rattle.run_report.specs.Status.{last_text}
 
 -- the passes of what a yard keeps, where another has the same
@@ -43,9 +45,11 @@ passes_same a b store passes t k p = record {
 rose_by_same : (a b c : YardSeen) (path : List ℕ) (n : ℕ) → arm_faults b.counts path ≡ arm_faults a.counts path → RoseBy b c path n → RoseBy a c path n
 rose_by_same a b c path n e p = subst (λ (m : ℕ). min (m + n) (2 ^ 64 - 1) ≤ arm_faults c.counts path) e p
 
-rose_same : (a b c : YardSeen) (path : List ℕ) (n : ℕ) → b.tells ≡ a.tells → ((q : List ℕ) → arm_faults b.counts q ≡ arm_faults a.counts q) → FaultsRose b c path n → FaultsRose a c path n
-rose_same a b c path n t e p = record {
-  rose = rose_by_same a b c path n (e path) p.rose;
+rose_same : (a b c : YardSeen) (path : List ℕ) (looks : List Look) → b.tells ≡ a.tells → ((q : List ℕ) → arm_faults b.counts q ≡ arm_faults a.counts q) → ((q : List ℕ) → good_reads b.counts q ≡ good_reads a.counts q)
+    → CountsRose b c path looks → CountsRose a c path looks
+rose_same a b c path looks t e r p = record {
+  reads = subst (λ (n : ℕ). Counted (count_by is_seen looks) n (good_reads c.counts path)) (r path) p.reads;
+  rose = rose_by_same a b c path _ (e path) p.rose;
   kept = λ z q. p.kept z q ∙ e q;
   sure = λ s q. p.sure (subst (λ (x : Tells). IsTrue (x.sure AtArm path)) (sym t) s) q ∙ e q;
 }
@@ -68,7 +72,7 @@ said_of_recovered a b c store got result p q t k n le w gone answers (whole pass
       let told = told_there a store gone told0 in
       let gives = answers told.disk told.kept told.sectors told.told in
       still (found (verified_report store got.live.epoch (length gives.0) got.entries.items looks)
-      (verified store told.disk told.sectors got.live gives.0 got.entries.items passes looks is told.kept told.told gives.2 (passes_same a b store passes t k f) g (rose_same a b c store.path _ t (λ q. ap (λ (x : Counts). arm_faults x q) n) h) refl)
+      (verified store told.disk told.sectors got.live gives.0 got.entries.items passes looks is told.kept told.told gives.2 (passes_same a b store passes t k f) g (rose_same a b c store.path looks t (λ q. ap (λ (x : Counts). arm_faults x q) n) (λ q. ap (λ (x : Counts). good_reads x q) n) h) refl)
       (ap (λ m. journal_text store.id.name got.live.epoch m ++ store_text store.id got.entries.items looks) (sym gives.1)) r),
 )
 said_of_recovered a b c store got result p q t k n le w gone answers (unopened f g z r s) = (
@@ -286,12 +290,81 @@ said_refused a c store (refusal.Damaged sector what at) result p q s stay gone a
 said_refused a c store refusal.Failed result p q s stay gone answers rose sure = said_failed a c store result p q s stay (λ k n. failed_is_no_memory (gone k n)) (rose refl) (λ disk k u l. sure disk k u l refl)
 said_refused a c store refusal.NoMemory result p q s stay gone answers rose sure = ([], s.1, λ file parameters is told. still (cut (nothing refl) (inl s.0)))
 
+-- what a status says of a refused journal
+says_one : (line : List ℕ) (with result other : Status) (p q : Printing) → SaysOr line with result p q → result ≡ other → (with ≡ other → ⊥) → (status.NoMemory ≡ other → ⊥) → ⊥
+says_one line with result other p q (inl s) e n m = n (sym s.0 ∙ e)
+says_one line with result other p q (inr s) e n m = m (sym s.0 ∙ e)
+
+pub only_failed : (id : StoreId) (why : RecoverFault) (result : Status) (p q : Printing) → SaysRefusal id why result p q → result ≡ status.Journal → why ≡ refusal.Failed
+only_failed id refusal.NoJournal result p q s e = absurd (says_one _ status.NoJournal result status.Journal p q s e (λ x. cc) (λ x. cc))
+only_failed id (refusal.Mismatch other wanted) result p q s e = absurd (says_one _ status.Mismatch result status.Journal p q s e (λ x. cc) (λ x. cc))
+only_failed id (refusal.Damaged sector what at) result p q s e = absurd (says_one _ status.Damaged result status.Journal p q s e (λ x. cc) (λ x. cc))
+only_failed id refusal.Failed result p q s e = refl
+only_failed id refusal.NoMemory result p q s e = absurd (let f = sym s.0 ∙ e in cc)
+
+pub not_failed : (id : StoreId) (why : RecoverFault) (result : Status) (p q : Printing) → SaysRefusal id why result p q → result ≢ status.Journal → result ≢ status.NoMemory → why ≡ refusal.Failed → ⊥
+not_failed id why result p q s j m e = elim (subst (λ (x : RecoverFault). SaysRefusal id x result p q) e s) [ inl said ↦ j said.0 | inr none ↦ m none.0 ]
+
+-- A read of the journal's disk failed: the yard that tells it keeps a disk whose count rose.
+pub disk_failed : (a c : YardSeen) (store : StorePlan) (o : Option DiskSeen) → kept_at a.disks store.journal ≡ o → JournalsStay a.disks c.disks → (kept_at a.disks store.journal ≡ None → ⊥)
+    → ((disk now : DiskSeen) → kept_at a.disks store.journal ≡ Some disk → kept_at c.disks store.journal ≡ Some now → Rose disk.faults now.faults) → DiskFailed a c
+disk_failed a c store None is stay gone rose = absurd (gone is)
+disk_failed a c store (Some disk) is stay gone rose =
+    let kept = stay.each store.journal disk is in
+    record { path = store.journal; disk = disk; now = kept.0; was = is; is = kept.1; rose = rose disk kept.0 is kept.1 }
+
+pub disk_failed_same : (a b c : YardSeen) → b.disks ≡ a.disks → DiskFailed b c → DiskFailed a c
+disk_failed_same a b c d f = record {
+  path = f.path;
+  disk = f.disk;
+  now = f.now;
+  was = ap (λ (k : Kept DiskSeen). kept_at k f.path) (sym d) ∙ f.was;
+  is = f.is;
+  rose = f.rose;
+}
+
+pub keeps_disks_same : (a b : Tells) → b ≡ a → IsTrue a.keeps_disks → IsTrue b.keeps_disks
+keeps_disks_same a b t keeps = subst (λ (s : Tells). IsTrue s.keeps_disks) (sym t) keeps
+
+pub no_such_line : (line : Result (List ℕ) NoMemory) (with result other : Status) (p q : Printing) → SaysLine line with result p q → result ≡ other → (with ≡ other → ⊥) → (status.NoMemory ≡ other → ⊥) → ⊥
+no_such_line (Ok line) with result other p q s e n m = n (sym s.0 ∙ e)
+no_such_line (Err none) with result other p q s e n m = m (sym s.0 ∙ e)
+
+-- A journal that was recovered has no failed disk.
+pub never_journal : (old new : YardSeen) (store : StorePlan) (epoch records : ℕ) (entries : List Entry) (result : Status) (p q : Printing) → SaysStore old new store epoch records entries result p q → result ≡ status.Journal → ⊥
+never_journal old new store epoch records entries result p q s e =
+    store_opened old new store epoch records entries result p q s (λ x. cc) (λ x. cc) (λ x. cc) (λ x. cc) (λ x. cc) (λ x. cc)
+
+-- ---- data that a command doesn't come to
+pub never_recovered : (a : YardSeen) (store : StorePlan) (got : Recovered) → GivesOnce → (IsTrue a.tells.keeps_disks → kept_at a.disks store.journal ≡ None → ⊥)
+    → ((disk : DiskSeen) → kept_at a.disks store.journal ≡ Some disk → (sectors : Sectors) → disk.told ≡ Some sectors → Answers sectors store.id (Ok got)) → JournalRefused a store → ⊥
+never_recovered a store got once gone answers (journal_missing keeps none) = gone keeps none
+never_recovered a store got once gone answers (journal_refused disk sectors outcome kept told gives bad) =
+    let found = answers disk kept sectors told in
+    let same : outcome ≡ Recovers got.live found.0 got.entries.items = once sectors store.id outcome _ gives found.2 in
+    bad (ap outcome_status same)
+
+pub refused_same : (a b : YardSeen) (store : StorePlan) → b.disks ≡ a.disks → b.tells ≡ a.tells → JournalRefused a store → JournalRefused b store
+refused_same a b store d t (journal_missing keeps none) = journal_missing (subst (λ (s : Tells). IsTrue s.keeps_disks) (sym t) keeps) (ap (λ (x : Kept DiskSeen). kept_at x store.journal) d ∙ none)
+refused_same a b store d t (journal_refused disk sectors outcome kept told gives bad) = journal_refused disk sectors outcome (ap (λ (x : Kept DiskSeen). kept_at x store.journal) d ∙ kept) told gives bad
+
+pub no_data_same : (a b : YardSeen) (bytes : List ℕ) → b.disks ≡ a.disks → b.tells ≡ a.tells → FindsNoData a bytes → FindsNoData b bytes
+no_data_same a b bytes d t (form_not_built none) = form_not_built none
+no_data_same a b bytes d t (no_recovery store is why) = no_recovery store is (refused_same a b store d t why)
+
+same_store : (o : Option StorePlan) (a b : StorePlan) → o ≡ Some a → o ≡ Some b → a ≡ b
+same_store o a b p q = cc
+
+pub refused_of_store : (a : YardSeen) (bytes : List ℕ) (store : StorePlan) → store_in bytes ≡ Some store → FindsNoData a bytes → JournalRefused a store
+refused_of_store a bytes store here (form_not_built none) = absurd (let e = sym here ∙ none in cc)
+refused_of_store a bytes store here (no_recovery other is why) = subst (JournalRefused a) (same_store (store_in bytes) other store is here) why
+
 -- ---- a parameter file
-pub finds_same : (a b c : YardSeen) (parameters : List ℕ) (made : Report) → b.disks ≡ a.disks → b.contents ≡ a.contents → b.tells ≡ a.tells → ((path : List ℕ) → arm_faults b.counts path ≡ arm_faults a.counts path) → Finds b c parameters made → Finds a c parameters made
-finds_same a b c parameters made d k t n (no_form p q) = no_form p q
-finds_same a b c parameters made d k t n (refused store disk sectors outcome p kept told g bad m) = refused store disk sectors outcome p (ap (λ (x : Kept DiskSeen). kept_at x store.journal) (sym d) ∙ kept) told g bad m
-finds_same a b c parameters made d k t n (verified store disk sectors live records entries passes looks p kept told g f h r m) =
-    verified store disk sectors live records entries passes looks p (ap (λ (x : Kept DiskSeen). kept_at x store.journal) (sym d) ∙ kept) told g (passes_same a b store passes t k f) h (rose_same a b c store.path _ t n r) m
+pub finds_same : (a b c : YardSeen) (parameters : List ℕ) (made : Report) → b.disks ≡ a.disks → b.contents ≡ a.contents → b.tells ≡ a.tells → ((path : List ℕ) → arm_faults b.counts path ≡ arm_faults a.counts path) → ((path : List ℕ) → good_reads b.counts path ≡ good_reads a.counts path) → Finds b c parameters made → Finds a c parameters made
+finds_same a b c parameters made d k t n reads (no_form p q) = no_form p q
+finds_same a b c parameters made d k t n reads (refused store disk sectors outcome p kept told g bad m) = refused store disk sectors outcome p (ap (λ (x : Kept DiskSeen). kept_at x store.journal) (sym d) ∙ kept) told g bad m
+finds_same a b c parameters made d k t n reads (verified store disk sectors live records entries passes looks p kept told g f h r m) =
+    verified store disk sectors live records entries passes looks p (ap (λ (x : Kept DiskSeen). kept_at x store.journal) (sym d) ∙ kept) told g (passes_same a b store passes t k f) h (rose_same a b c store.path looks t n reads r) m
 
 pub fronts_same : (a b c : YardSeen) (parameters text : List ℕ) → b.disks ≡ a.disks → b.contents ≡ a.contents → b.tells ≡ a.tells → ((path : List ℕ) → arm_faults b.counts path ≡ arm_faults a.counts path) → Fronts b c parameters text → Fronts a c parameters text
 fronts_same a b c parameters text d k t n (nothing e) = nothing e
@@ -309,9 +382,9 @@ journal_told_same a b store d t (is_there_told p) = is_there_told (record {
   told = p.told;
 })
 
-still_same : (a b c : YardSeen) (parameters text : List ℕ) (result : Status) → b.disks ≡ a.disks → b.contents ≡ a.contents → b.tells ≡ a.tells → ((path : List ℕ) → arm_faults b.counts path ≡ arm_faults a.counts path) → IsStill b c parameters text result → IsStill a c parameters text result
-still_same a b c parameters text result d k t n (found made f p q) = found made (finds_same a b c parameters made d k t n f) p q
-still_same a b c parameters text result d k t n (cut f r) = cut (fronts_same a b c parameters text d k t n f) r
+still_same : (a b c : YardSeen) (parameters text : List ℕ) (result : Status) → b.disks ≡ a.disks → b.contents ≡ a.contents → b.tells ≡ a.tells → ((path : List ℕ) → arm_faults b.counts path ≡ arm_faults a.counts path) → ((path : List ℕ) → good_reads b.counts path ≡ good_reads a.counts path) → IsStill b c parameters text result → IsStill a c parameters text result
+still_same a b c parameters text result d k t n reads (found made f p q) = found made (finds_same a b c parameters made d k t n reads f) p q
+still_same a b c parameters text result d k t n reads (cut f r) = cut (fronts_same a b c parameters text d k t n f) r
 
 faults_same : (a b c : YardSeen) (file parameters : List ℕ) (made : Report) → b.disks ≡ a.disks → b.tells ≡ a.tells → ((path : List ℕ) → source_faults b.counts path ≡ source_faults a.counts path) → a.faults ≤ b.faults → (IsTrue a.willing → IsTrue b.willing) → StaysThere a.files b.files → Faults b c file parameters made → Faults a c file parameters made
 faults_same a b c file parameters made d t m le w there (no_source r f e) = no_source (rose_earlier a.faults b.faults c.faults le r) (λ x y. f (w x) (there AtSource file y)) e
@@ -322,9 +395,9 @@ faults_same a b c file parameters made d t m le w there (journal_failed store di
 faults_same a b c file parameters made d t m le w there (no_data store disk sectors live records entries p kept told g r f e) =
     no_data store disk sectors live records entries p (ap (λ (x : Kept DiskSeen). kept_at x store.journal) (sym d) ∙ kept) told g (rose_earlier a.faults b.faults c.faults le r) (λ x y. f (w x) y) e
 
-pub said_same : (a b c : YardSeen) (file parameters text : List ℕ) (result : Status) → b.disks ≡ a.disks → b.contents ≡ a.contents → b.tells ≡ a.tells → ((path : List ℕ) → arm_faults b.counts path ≡ arm_faults a.counts path) → ((path : List ℕ) → source_faults b.counts path ≡ source_faults a.counts path) → a.faults ≤ b.faults → (IsTrue a.willing → IsTrue b.willing) → StaysThere a.files b.files → IsSaid b c file parameters text result → IsSaid a c file parameters text result
-said_same a b c file parameters text result d k t n m le w there (still s) = still (still_same a b c parameters text result d k t n s)
-said_same a b c file parameters text result d k t n m le w there (fault made f p q) = fault made (faults_same a b c file parameters made d t m le w there f) p q
+pub said_same : (a b c : YardSeen) (file parameters text : List ℕ) (result : Status) → b.disks ≡ a.disks → b.contents ≡ a.contents → b.tells ≡ a.tells → ((path : List ℕ) → arm_faults b.counts path ≡ arm_faults a.counts path) → ((path : List ℕ) → good_reads b.counts path ≡ good_reads a.counts path) → ((path : List ℕ) → source_faults b.counts path ≡ source_faults a.counts path) → a.faults ≤ b.faults → (IsTrue a.willing → IsTrue b.willing) → StaysThere a.files b.files → IsSaid b c file parameters text result → IsSaid a c file parameters text result
+said_same a b c file parameters text result d k t n reads m le w there (still s) = still (still_same a b c parameters text result d k t n reads s)
+said_same a b c file parameters text result d k t n reads m le w there (fault made f p q) = fault made (faults_same a b c file parameters made d t m le w there f) p q
 
 pub said_no_source : (a c : YardSeen) (file : List ℕ) (result : Status) (p q : Printing) → SaysOr (cannot_open_text file) status.Yard result p q → Rose a.faults c.faults → (IsTrue a.willing → IsTrue (is_there a.files AtSource file) → ⊥) → (text : List ℕ) × Says p q text × ((parameters : List ℕ) → IsTold a file parameters → IsSaid a c file parameters text result)
 said_no_source a c file result p q (inl s) r w = (cannot_open_text file, s.1, λ parameters told. fault (report (cannot_open_text file) status.Yard) (no_source r w refl) refl s.0)
@@ -344,15 +417,15 @@ said_no_form a c bytes p q text e none s = (
 pub said_of_store : (a c : YardSeen) (bytes : List ℕ) (store : StorePlan) (result : Status) (p q : Printing) → store_in bytes ≡ Some store → (text : List ℕ) × Says p q text × SaidOfStore a c store text result → (text : List ℕ) × Says p q text × SaidOfBytes a c bytes text result
 said_of_store a c bytes store result p q here v = (v.0, v.1, λ file parameters is told. v.2 file parameters (ap store_in (sym is) ∙ here) (told store here))
 
-pub said_of_file : (a b c : YardSeen) (bytes file : List ℕ) (result : Status) (p q : Printing) → b.disks ≡ a.disks → b.contents ≡ a.contents → b.tells ≡ a.tells → ((path : List ℕ) → arm_faults b.counts path ≡ arm_faults a.counts path) → ((path : List ℕ) → source_faults b.counts path ≡ source_faults a.counts path) → a.faults ≤ b.faults → (IsTrue a.willing → IsTrue b.willing) → StaysThere a.files b.files
+pub said_of_file : (a b c : YardSeen) (bytes file : List ℕ) (result : Status) (p q : Printing) → b.disks ≡ a.disks → b.contents ≡ a.contents → b.tells ≡ a.tells → ((path : List ℕ) → arm_faults b.counts path ≡ arm_faults a.counts path) → ((path : List ℕ) → good_reads b.counts path ≡ good_reads a.counts path) → ((path : List ℕ) → source_faults b.counts path ≡ source_faults a.counts path) → a.faults ≤ b.faults → (IsTrue a.willing → IsTrue b.willing) → StaysThere a.files b.files
     → ((parameters : List ℕ) → a.tells.bytes file ≡ Some parameters → bytes ≡ take 1048577 parameters)
     → (text : List ℕ) × Says p q text × SaidOfBytes b c bytes text result → (text : List ℕ) × Says p q text × ((parameters : List ℕ) → IsTold a file parameters → IsSaid a c file parameters text result)
-said_of_file a b c bytes file result p q d k t n m le w there exact v = (
+said_of_file a b c bytes file result p q d k t n reads m le w there exact v = (
   v.0,
   v.1,
   λ parameters told.
       let is : bytes ≡ take 1048577 parameters = exact parameters told.bytes in
-      said_same a b c file parameters v.0 result d k t n m le w there
+      said_same a b c file parameters v.0 result d k t n reads m le w there
       (v.2 file parameters is (λ store here. journal_told_same a b store d t (told.journal store (ap store_in (sym is) ∙ here)))),
 )
 
@@ -403,12 +476,28 @@ sink_rose a b c text said result fresh p q failed good sink =
       λ n. whole.quiet (no_sink c.failed said result failed good n).0,
     )
 
+pub name_is : (o : Option (List ℕ)) (name file : List ℕ) → Some name ≡ o → o ≡ Some file → file ≡ name
+name_is o name file p q = cc
+
 pub same_file : (o : Option (List ℕ)) (name file here : List ℕ) → Some name ≡ o → here ≡ name → o ≡ Some file → file ≡ here
 same_file o name file here p q r = cc
 
 pub told_along : (a c : YardSeen) (f g parameters text : List ℕ) (result : Status) → f ≡ g → IsTold a f parameters → ((parameters : List ℕ) → IsTold a g parameters → IsSaid a c g parameters text result) → IsSaid a c f parameters text result
 told_along a c f g parameters text result e told said =
     subst (λ (x : List ℕ). IsSaid a c x parameters text result) (sym e) (said parameters (subst (λ (x : List ℕ). IsTold a x parameters) e told))
+
+-- of the same parameter file by another name of its own
+pub said_along : (a c : YardSeen) (f g text : List ℕ) (result : Status) → f ≡ g → ((parameters : List ℕ) → IsTold a g parameters → IsSaid a c g parameters text result) → ((parameters : List ℕ) → IsTold a f parameters → IsSaid a c f parameters text result)
+said_along a c f g text result e said parameters told = told_along a c f g parameters text result e told said
+
+-- ---- the status of a run, by that of its end
+pub its_status : (f : Bool) (said result target : Status) → (f ≡ true → result ≡ status.Sink) → (f ≡ false → result ≡ said) → (target ≡ status.Sink → ⊥) → result ≡ target → said ≡ target
+its_status true said result target p q n e = absurd (n (sym e ∙ p refl))
+its_status false said result target p q n e = sym (q refl) ∙ e
+
+pub not_status : (f : Bool) (said result target : Status) → (f ≡ true → result ≡ status.Sink) → (f ≡ false → result ≡ said) → result ≢ status.Sink → result ≢ target → said ≢ target
+not_status true said result target p q s n = absurd (s (p refl))
+not_status false said result target p q s n = λ e. n (q refl ∙ e)
 
 pub bytes_along : (a : YardSeen) (f g parameters : List ℕ) → f ≡ g → a.tells.bytes f ≡ Some parameters → a.tells.bytes g ≡ Some parameters
 bytes_along a f g parameters e p = subst (λ (x : List ℕ). a.tells.bytes x ≡ Some parameters) e p

@@ -1,5 +1,5 @@
 -- What a part of a command leaves as it was.
-use Rattle.std.specs.Prelude.{◌≡◌, ℕ, ◌≤◌, ◌<◌, IsTrue, List, Some}
+use Rattle.std.specs.Prelude.{◌≡◌, ℕ, ◌≤◌, ◌<◌, IsTrue, List, Some, None}
 use Rattle.vd_disk.specs.Disk.{DiskSeen}
 use Rattle.plan_types.specs.declared.store.StorePlan.{StorePlan}
 use Rattle.vd_yard.specs.Kept.{Kept, kept_at, bytes_at}
@@ -22,9 +22,10 @@ pub record Unwritten (before now : DiskSeen) : Type 0 where
   pub same : now ≡ record before { faults = now.faults }
   pub later : before.faults ≤ now.faults
 
--- Each kept disk was only read.
+-- Each kept disk was only read, and where none is kept none came.
 pub record JournalsStay (old new : Kept DiskSeen) : Type 0 where
   pub each : (path : List ℕ) (disk : DiskSeen) → kept_at old path ≡ Some disk → (now : DiskSeen) × (kept_at new path ≡ Some now) × Unwritten disk now
+  pub none : (path : List ℕ) → kept_at old path ≡ None → kept_at new path ≡ None
 
 -- Each block of the store has the bytes that it had, and other paths have what they had.
 pub record BlocksStay (store : StorePlan) (old new : Kept (List ℕ)) : Type 0 where

@@ -23,7 +23,7 @@ use Rattle.run_report.specs.Says.{Printing, Says}
 use Rattle.run_report.specs.Lines.{form_not_built_text, cannot_open_text, cannot_read_text, journal_text, journal_fault_text}
 use Rattle.vdbench_top.specs.Form.{store_in}
 use Rattle.vdbench_top.specs.Recovery.{outcome_text, outcome_status}
-use Rattle.vdbench_top.specs.Verification.{store_text, lines_of, counted_of, counted_status, ArePassesOf, RoseBy, FaultsRose}
+use Rattle.vdbench_top.specs.Verification.{store_text, lines_of, counted_of, counted_status, ArePassesOf, RoseBy, CountsRose}
 
 -- the lines of a command but the last, and its status
 pub record Report : Type 0 where
@@ -48,7 +48,7 @@ pub data Finds (old new : YardSeen) (parameters : List ℕ) (made : Report) : Ty
   verified : (store : StorePlan) (disk : DiskSeen) (sectors : Sectors) (live : Live) (records : List Record) (entries : List Entry) (passes : List PassSeen) (looks : List Look)
       → store_in (take 1048577 parameters) ≡ Some store → kept_at old.disks store.journal ≡ Some disk → disk.told ≡ Some sectors
       → Gives sectors store.id (Recovers live records entries) → ArePassesOf old store passes → AreLooks store.id entries passes looks
-      → FaultsRose old new store.path (count_by is_unread looks)
+      → CountsRose old new store.path looks
       → made ≡ verified_report store live.epoch (length records) entries looks → Finds old new parameters made
 
 -- An outside call failed over this parameter file, and the report of it. Each way has its cause: a count that rose, and that the thing
@@ -117,7 +117,7 @@ pub record IsTold (yard : YardSeen) (file parameters : List ℕ) : Type 0 where
 -- What was said of a store whose journal was recovered, and the status that it goes with.
 pub data SaysStore (old new : YardSeen) (store : StorePlan) (epoch records : ℕ) (entries : List Entry) (result : Status) (before now : Printing) : Type 0 where
   whole : (passes : List PassSeen) (looks : List Look) → ArePassesOf old store passes → AreLooks store.id entries passes looks
-      → FaultsRose old new store.path (count_by is_unread looks) → result ≡ counted_status (counted_of entries looks)
+      → CountsRose old new store.path looks → result ≡ counted_status (counted_of entries looks)
       → Says before now (journal_text store.id.name epoch records ++ store_text store.id entries looks)
       → SaysStore old new store epoch records entries result before now
   unopened : Rose old.faults new.faults → (IsTrue old.willing → HasFiles old.files store → ⊥) → new.counts ≡ old.counts → result ≡ status.Yard
@@ -144,6 +144,26 @@ pub record Causes (old new : YardSeen) (path : List ℕ) (result : Status) : Typ
   pub no_usage : result ≡ status.Usage → ⊥
   pub no_source : result ≡ status.Source → ⊥
   pub no_epoch : result ≡ status.EpochEnd → ⊥
+
+-- The count of faults of a kept disk rose.
+pub record DiskFailed (old new : YardSeen) : Type 0 where
+  pub path : List ℕ
+  pub disk : DiskSeen
+  pub now : DiskSeen
+  pub was : kept_at old.disks path ≡ Some disk
+  pub is : kept_at new.disks path ≡ Some now
+  pub rose : Rose disk.faults now.faults
+
+-- The yard tells that a store's journal is missing, or its sectors, which are refused.
+pub data JournalRefused (yard : YardSeen) (store : StorePlan) : Type 0 where
+  journal_missing : IsTrue yard.tells.keeps_disks → kept_at yard.disks store.journal ≡ None → JournalRefused yard store
+  journal_refused : (disk : DiskSeen) (sectors : Sectors) (outcome : Outcome) → kept_at yard.disks store.journal ≡ Some disk
+      → disk.told ≡ Some sectors → Gives sectors store.id outcome → outcome_status outcome ≢ status.Good → JournalRefused yard store
+
+-- A parameter file of these bytes leads to no data: it has no form that is read so far, or the journal of its store is refused.
+pub data FindsNoData (yard : YardSeen) (bytes : List ℕ) : Type 0 where
+  form_not_built : store_in bytes ≡ None → FindsNoData yard bytes
+  no_recovery : (store : StorePlan) → store_in bytes ≡ Some store → JournalRefused yard store → FindsNoData yard bytes
 
 -- How a command ends that had to say this text and its last lines: all was added and the status is its own, or a front was added and
 -- the status is that of a failed output.

@@ -2,7 +2,7 @@
 use Rattle.std.specs.Prelude.{◌≡◌, ℕ, ◌+◌, ◌-◌, ◌^◌, ◌≤◌, ◌==◌, min, Bool, true, false, IsTrue, List, [], ◌++◌, map, take, count_by, if◌then◌else◌}
 use Rattle.std.specs.List.{concat}
 use Rattle.vd_base.specs.declared.geometry.StoreId.{StoreId}
-use Rattle.vd_arm.specs.Arm.{PassSeen}
+use Rattle.vd_arm.specs.Arm.{PassSeen, Counted}
 use Rattle.key_state.specs.declared.entry.Entry.{Entry}
 use Rattle.key_state.specs.declared.entry.Entry.TheVariants as entry
 use Rattle.block_verdict.specs.declared.finding.Finding.{Finding}
@@ -14,7 +14,7 @@ use Rattle.run_report.specs.declared.status.Status.{Status}
 use Rattle.run_report.specs.declared.status.Status.TheVariants as status
 use Rattle.run_report.specs.Findings.{finding_text, verified_text}
 use Rattle.run_report.specs.Says.{Printing, Says}
-use Rattle.vd_yard.specs.Counts.{arm_faults}
+use Rattle.vd_yard.specs.Counts.{arm_faults, good_reads}
 use Rattle.vd_yard.specs.Out.{AtArm}
 use Rattle.vd_yard.specs.Kept.{bytes_at}
 use Rattle.vd_yard.specs.Contents.{AreBlocks, TellFile}
@@ -65,11 +65,13 @@ pub record ArePassesOf (old : YardSeen) (store : StorePlan) (passes : List PassS
 abbrev pub RoseBy : YardSeen → YardSeen → List ℕ → ℕ → Type 0
 RoseBy old new path unread = min (arm_faults old.counts path + unread) (2 ^ 64 - 1) ≤ arm_faults new.counts path
 
--- What the looks left of the counts of arm faults: the path's rose by at least so many as there are blocks that couldn't be read. Where
--- there is none, or the path's arms are sure, all paths' stayed.
-pub record FaultsRose (old new : YardSeen) (path : List ℕ) (unread : ℕ) : Type 0 where
-  pub rose : RoseBy old new path unread
-  pub kept : unread ≡ 0 → (q : List ℕ) → arm_faults new.counts q ≡ arm_faults old.counts q
+-- What the looks left of the counts. The path's good reads rose by just so many as there are blocks that were seen, modulo 2^64, and
+-- its arm faults by at least so many as there are blocks that couldn't be read. Where there is none of these, or the path's arms are
+-- sure, all paths' arm faults stayed.
+pub record CountsRose (old new : YardSeen) (path : List ℕ) (looks : List Look) : Type 0 where
+  pub reads : Counted (count_by is_seen looks) (good_reads old.counts path) (good_reads new.counts path)
+  pub rose : RoseBy old new path (count_by is_unread looks)
+  pub kept : count_by is_unread looks ≡ 0 → (q : List ℕ) → arm_faults new.counts q ≡ arm_faults old.counts q
   pub sure : IsTrue (old.tells.sure AtArm path) → (q : List ℕ) → arm_faults new.counts q ≡ arm_faults old.counts q
 
 -- How far a verification came that ended early: the lines of the first blocks were said, or none was begun.

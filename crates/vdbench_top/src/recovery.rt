@@ -1,5 +1,5 @@
 // Recovering the journal of one store.
-ghost use Rattle.std.specs.Prelude.{◌≡◌, ◌≤◌, ◌<◌, ◌-◌, ◌^◌, IfOk, OnOk, IsErrOf, Some, None, IsTrue, length};
+ghost use Rattle.std.specs.Prelude.{◌≡◌, ◌≤◌, ◌<◌, ◌-◌, ◌^◌, IfOk, OnOk, IsErrOf, Some, None, IsTrue, List, ℕ, length};
 ghost use Rattle.journal_recover.specs.declared.fault.RecoverFault.{RecoverFault as AFault};
 ghost use Rattle.vd_outside.specs.Causes.{Rose};
 ghost use Rattle.vd_disk.specs.Disk.{DiskSeen, WhenTold};
@@ -9,6 +9,7 @@ ghost use Rattle.vd_yard.specs.Yard.{is_there};
 ghost use Rattle.key_state.specs.Entries.{AreEntries};
 ghost use Rattle.vdbench_top.specs.Frame.{Keeps, JournalsStay};
 
+use journal_layout::gives_once;
 use journal_recover::{RecoverFault, Recovered, recovered};
 use plan_types::StorePlan;
 use std::alloc::Global;
@@ -24,6 +25,7 @@ pub enum NotRecovered {
 }
 
 ghost use Rattle.vdbench_top.specs.Recovery.{AnswersFor};
+ghost use Rattle.vdbench_top.specs.Still.{JournalRefused};
 
 /// Opens a store's journal, recovers it, and gives it back.
 #[tactic(auto, using(vd_yard::specs::Out::one_more_here, vd_yard::specs::Out::one_more_cancel, vd_yard::specs::Kept::keep_at_here, crate::proofs::Frames::journals_stay, crate::proofs::Frames::journals_same))]
@@ -41,6 +43,7 @@ pub fn recover_store<Y: Yard>(
     ensures absent { IsTrue (Y.seen yard.old).tells.keeps_disks → kept_at (Y.seen yard.old).disks store.now.journal ≡ None → OnOk result ⊥ }
     ensures absent_refused { IsTrue (Y.seen yard.old).tells.keeps_disks → kept_at (Y.seen yard.old).disks store.now.journal ≡ None →
         (fault : AFault) → IsErrOf result (NotRecovered.Refused fault) → fault ≡ RecoverFault.NoMemory }
+    ensures refused { JournalRefused (Y.seen yard.old) store.now → OnOk result ⊥ }
     ensures id { IfOk result (λ found. found.live.id ≡ store.now.id) }
     ensures one_each { IfOk result (λ found. length found.entries.items ≡ store.now.id.geometry.blocks) }
     ensures valid { IfOk result (λ found. AreEntries found.entries.items) }
@@ -51,9 +54,12 @@ pub fn recover_store<Y: Yard>(
     ensures disk_fault { IsErrOf result (NotRecovered.Refused RecoverFault.Failed) → IsTrue (Y.seen yard.old).tells.keeps_disks →
         (disk now : DiskSeen) → kept_at (Y.seen yard.old).disks store.now.journal ≡ Some disk →
         kept_at (Y.seen yard.new).disks store.now.journal ≡ Some now → Rose disk.faults now.faults }
+    ensures disk_quiet { (IsErrOf result (NotRecovered.Refused RecoverFault.Failed) → ⊥) → (path : List ℕ) →
+        kept_at (Y.seen yard.new).disks path ≡ kept_at (Y.seen yard.old).disks path }
     ensures sure { (disk : DiskSeen) → kept_at (Y.seen yard.old).disks store.now.journal ≡ Some disk → IsTrue disk.sure →
         disk.faults < 2 ^ 64 - 1 → IsErrOf result (NotRecovered.Refused RecoverFault.Failed) → ⊥ }
 {
+    gives_once();
     let mut disk = match yard.disk(&store.journal) {
         Ok(disk) => disk,
         Err(YardFault::Failed) => return Err(NotRecovered::Yard),

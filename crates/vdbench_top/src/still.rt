@@ -113,7 +113,7 @@ fn status_of(counted: &Verified) -> Status
 }
 
 ghost use Rattle.vdbench_top.specs.Verification.{counted_status};
-ghost use Rattle.vdbench_top.specs.Still.{SaysStore, SaidOfStore, IsSaid, IsTold};
+ghost use Rattle.vdbench_top.specs.Still.{SaysStore, SaidOfStore, IsSaid, IsTold, DiskFailed, JournalRefused, FindsNoData};
 ghost use Rattle.key_state.specs.Entries.{AreEntries};
 
 /// Says that a store's journal was recovered, and verifies the store.
@@ -174,7 +174,11 @@ fn run_store<Y: Yard, S: Sink>(
     ensures causes { Causes (Y.seen yard.old) (Y.seen yard.new) store.now.path result }
     ensures untouched { result ≢ Status.Good → result ≢ Status.Corrupt → result ≢ Status.Device → result ≢ Status.Yard → result ≢ Status.Sink →
         result ≢ Status.NoMemory → (Y.seen yard.new).contents ≡ (Y.seen yard.old).contents }
+    ensures refused { JournalRefused (Y.seen yard.old) store.now → (Y.seen yard.new).contents ≡ (Y.seen yard.old).contents }
     ensures yard_quiet { result ≢ Status.Yard → result ≢ Status.NoMemory → (Y.seen yard.new).faults ≡ (Y.seen yard.old).faults }
+    ensures disk_fault { result ≡ Status.Journal → IsTrue (Y.seen yard.old).tells.keeps_disks → DiskFailed (Y.seen yard.old) (Y.seen yard.new) }
+    ensures disk_quiet { result ≢ Status.Journal → result ≢ Status.NoMemory → (path : List ℕ) →
+        kept_at (Y.seen yard.new).disks path ≡ kept_at (Y.seen yard.old).disks path }
     ensures output { result ≡ Status.Sink → printer.new.failed ≡ true }
 {
     match recover_store(alloc, yard, store) {
@@ -203,7 +207,7 @@ fn run_parameters<Y: Yard, S: Sink>(
     ensures journals { JournalsStay (Y.seen yard.old).disks (Y.seen yard.new).disks }
     ensures sources { (q : List ℕ) → source_faults (Y.seen yard.new).counts q ≡ source_faults (Y.seen yard.old).counts q }
     ensures contents { ((Y.seen yard.new).contents ≡ (Y.seen yard.old).contents)
-        ⊎ ((store : AStore) × BlocksStay store (Y.seen yard.old).contents (Y.seen yard.new).contents) }
+        ⊎ ((store : AStore) × (store_in bytes.now ≡ Some store) × BlocksStay store (Y.seen yard.old).contents (Y.seen yard.new).contents) }
     ensures blocks { (store : AStore) → store_in bytes.now ≡ Some store → BlocksStay store (Y.seen yard.old).contents (Y.seen yard.new).contents }
     ensures said { (text : List ℕ)
         × Says (printing printer.old.failed (S.taken out.old) (S.faults out.old)) (printing printer.new.failed (S.taken out.new) (S.faults out.new)) text
@@ -212,7 +216,11 @@ fn run_parameters<Y: Yard, S: Sink>(
     ensures no_source { result ≡ Status.Source → ⊥ }
     ensures untouched { result ≢ Status.Good → result ≢ Status.Corrupt → result ≢ Status.Device → result ≢ Status.Yard → result ≢ Status.Sink →
         result ≢ Status.NoMemory → (Y.seen yard.new).contents ≡ (Y.seen yard.old).contents }
+    ensures refused { FindsNoData (Y.seen yard.old) bytes.now → (Y.seen yard.new).contents ≡ (Y.seen yard.old).contents }
     ensures yard_quiet { result ≢ Status.Yard → result ≢ Status.NoMemory → (Y.seen yard.new).faults ≡ (Y.seen yard.old).faults }
+    ensures disk_fault { result ≡ Status.Journal → IsTrue (Y.seen yard.old).tells.keeps_disks → DiskFailed (Y.seen yard.old) (Y.seen yard.new) }
+    ensures disk_quiet { result ≢ Status.Journal → result ≢ Status.NoMemory → (path : List ℕ) →
+        kept_at (Y.seen yard.new).disks path ≡ kept_at (Y.seen yard.old).disks path }
     ensures output { result ≡ Status.Sink → printer.new.failed ≡ true }
 {
     match store_of_bytes(alloc, bytes) {
@@ -240,7 +248,7 @@ fn run_file<Y: Yard, S: Sink>(
     ensures keeps { Keeps (Y.seen yard.old) (Y.seen yard.new) }
     ensures journals { JournalsStay (Y.seen yard.old).disks (Y.seen yard.new).disks }
     ensures contents { ((Y.seen yard.new).contents ≡ (Y.seen yard.old).contents)
-        ⊎ ((store : AStore) × BlocksStay store (Y.seen yard.old).contents (Y.seen yard.new).contents) }
+        ⊎ ((bytes : List ℕ) × (store : AStore) × (store_in bytes ≡ Some store) × BlocksStay store (Y.seen yard.old).contents (Y.seen yard.new).contents) }
     ensures blocks { (parameters : List ℕ) (store : AStore) → (Y.seen yard.old).tells.bytes file.now ≡ Some parameters →
         store_in (take 1048577 parameters) ≡ Some store → BlocksStay store (Y.seen yard.old).contents (Y.seen yard.new).contents }
     ensures said { (text : List ℕ)
@@ -252,7 +260,12 @@ fn run_file<Y: Yard, S: Sink>(
         source_faults (Y.seen yard.new).counts q ≡ source_faults (Y.seen yard.old).counts q }
     ensures untouched { result ≢ Status.Good → result ≢ Status.Corrupt → result ≢ Status.Device → result ≢ Status.Yard → result ≢ Status.Sink →
         result ≢ Status.NoMemory → (Y.seen yard.new).contents ≡ (Y.seen yard.old).contents }
+    ensures refused { (parameters : List ℕ) → (Y.seen yard.old).tells.bytes file.now ≡ Some parameters →
+        FindsNoData (Y.seen yard.old) (take 1048577 parameters) → (Y.seen yard.new).contents ≡ (Y.seen yard.old).contents }
     ensures yard_quiet { result ≢ Status.Yard → result ≢ Status.NoMemory → (Y.seen yard.new).faults ≡ (Y.seen yard.old).faults }
+    ensures disk_fault { result ≡ Status.Journal → IsTrue (Y.seen yard.old).tells.keeps_disks → DiskFailed (Y.seen yard.old) (Y.seen yard.new) }
+    ensures disk_quiet { result ≢ Status.Journal → result ≢ Status.NoMemory → (path : List ℕ) →
+        kept_at (Y.seen yard.new).disks path ≡ kept_at (Y.seen yard.old).disks path }
     ensures output { result ≡ Status.Sink → printer.new.failed ≡ true }
 {
     match read_file(alloc, yard, file) {
@@ -266,6 +279,43 @@ fn run_file<Y: Yard, S: Sink>(
         ),
         Err(Unread::NoMemory) => Status::NoMemory,
     }
+}
+
+/// A command over the parameter file of this name.
+fn run_named<Y: Yard, S: Sink>(
+    alloc: Global,
+    yard: &mut Y,
+    name: &str,
+    printer: &mut Printer,
+    out: &mut S,
+) -> Status
+    ensures keeps { Keeps (Y.seen yard.old) (Y.seen yard.new) }
+    ensures journals { JournalsStay (Y.seen yard.old).disks (Y.seen yard.new).disks }
+    ensures contents { ((Y.seen yard.new).contents ≡ (Y.seen yard.old).contents)
+        ⊎ ((bytes : List ℕ) × (store : AStore) × (store_in bytes ≡ Some store) × BlocksStay store (Y.seen yard.old).contents (Y.seen yard.new).contents) }
+    ensures blocks { (parameters : List ℕ) (store : AStore) → (Y.seen yard.old).tells.bytes name.now ≡ Some parameters →
+        store_in (take 1048577 parameters) ≡ Some store → BlocksStay store (Y.seen yard.old).contents (Y.seen yard.new).contents }
+    ensures said { (text : List ℕ)
+        × Says (printing printer.old.failed (S.taken out.old) (S.faults out.old)) (printing printer.new.failed (S.taken out.new) (S.faults out.new)) text
+        × ((parameters : List ℕ) → IsTold (Y.seen yard.old) name.now parameters → IsSaid (Y.seen yard.old) (Y.seen yard.new) name.now parameters text result) }
+    ensures causes { Caused (Y.seen yard.old) (Y.seen yard.new) result }
+    ensures source { result ≡ Status.Source → Rose (source_faults (Y.seen yard.old).counts name.now) (source_faults (Y.seen yard.new).counts name.now) }
+    ensures source_quiet { result ≢ Status.Source → result ≢ Status.NoMemory → (q : List ℕ) →
+        source_faults (Y.seen yard.new).counts q ≡ source_faults (Y.seen yard.old).counts q }
+    ensures untouched { result ≢ Status.Good → result ≢ Status.Corrupt → result ≢ Status.Device → result ≢ Status.Yard → result ≢ Status.Sink →
+        result ≢ Status.NoMemory → (Y.seen yard.new).contents ≡ (Y.seen yard.old).contents }
+    ensures refused { (parameters : List ℕ) → (Y.seen yard.old).tells.bytes name.now ≡ Some parameters →
+        FindsNoData (Y.seen yard.old) (take 1048577 parameters) → (Y.seen yard.new).contents ≡ (Y.seen yard.old).contents }
+    ensures yard_quiet { result ≢ Status.Yard → result ≢ Status.NoMemory → (Y.seen yard.new).faults ≡ (Y.seen yard.old).faults }
+    ensures disk_fault { result ≡ Status.Journal → IsTrue (Y.seen yard.old).tells.keeps_disks → DiskFailed (Y.seen yard.old) (Y.seen yard.new) }
+    ensures disk_quiet { result ≢ Status.Journal → result ≢ Status.NoMemory → (path : List ℕ) →
+        kept_at (Y.seen yard.new).disks path ≡ kept_at (Y.seen yard.old).disks path }
+    ensures output { result ≡ Status.Sink → printer.new.failed ≡ true }
+{
+    let Ok(file) = Text::from_str(alloc, name) else {
+        return Status::NoMemory;
+    };
+    run_file(alloc, yard, &file, printer, out)
 }
 
 /// Says the last lines, and answers the status that the command ends with.
@@ -282,8 +332,8 @@ fn end<S: Sink>(status: Status, printer: &mut Printer, out: &mut S) -> Status
 }
 
 /// A still command: it runs a schedule, or recovers the journal of the store that its parameter file names, verifies the store, and prints
-/// what is found. It writes no journal, and no block's bytes change. `words` are those after the program's name. It answers the status that the command
-/// ends with.
+/// what is found. It writes no journal, and no block's bytes change. `words` are those after the program's name. It answers the status
+/// that the command ends with.
 pub fn vdbench_still<Y: Yard, S: Sink>(
     alloc: Global,
     words: &[String],
@@ -294,19 +344,25 @@ pub fn vdbench_still<Y: Yard, S: Sink>(
     ensures keeps { Keeps (Y.seen yard.old) (Y.seen yard.new) }
     ensures journals { JournalsStay (Y.seen yard.old).disks (Y.seen yard.new).disks }
 
-    // At most one path's data is touched, none with a status that comes before it is opened, and each block of a store there has the
-    // bytes that it had: that of the told parameter file.
+    // Words that name no file leave all as it was.
+    ensures no_file { file_of (map string_bytes words.now) ≡ None → Y.seen yard.new ≡ Y.seen yard.old }
+
+    // At most one path's data is touched, that of a store which a parameter file of some bytes names, and each block of that store has the
+    // bytes that it had. Where the parameter file is told, it is its store. None is touched where that file has no form that is read or its
+    // store's journal is refused, however the command ends, nor with a status that comes before data is opened.
     ensures contents { ((Y.seen yard.new).contents ≡ (Y.seen yard.old).contents)
-        ⊎ ((store : AStore) × BlocksStay store (Y.seen yard.old).contents (Y.seen yard.new).contents) }
-    ensures untouched { result ≢ Status.Good → result ≢ Status.Corrupt → result ≢ Status.Device → result ≢ Status.Yard → result ≢ Status.Sink →
-        result ≢ Status.NoMemory → (Y.seen yard.new).contents ≡ (Y.seen yard.old).contents }
+        ⊎ ((bytes : List ℕ) × (store : AStore) × (store_in bytes ≡ Some store) × BlocksStay store (Y.seen yard.old).contents (Y.seen yard.new).contents) }
     ensures blocks { (file parameters : List ℕ) (store : AStore) → file_of (map string_bytes words.now) ≡ Some file →
         (Y.seen yard.old).tells.bytes file ≡ Some parameters → store_in (take 1048577 parameters) ≡ Some store →
         BlocksStay store (Y.seen yard.old).contents (Y.seen yard.new).contents }
+    ensures refused { (file parameters : List ℕ) → file_of (map string_bytes words.now) ≡ Some file →
+        (Y.seen yard.old).tells.bytes file ≡ Some parameters → FindsNoData (Y.seen yard.old) (take 1048577 parameters) →
+        (Y.seen yard.new).contents ≡ (Y.seen yard.old).contents }
+    ensures untouched { result ≢ Status.Good → result ≢ Status.Corrupt → result ≢ Status.Device → result ≢ Status.Yard → result ≢ Status.Sink →
+        result ≢ Status.NoMemory → (Y.seen yard.new).contents ≡ (Y.seen yard.old).contents }
 
     // Words that are no command print the usage, and nothing else ends so.
     ensures usage { command_said (map string_bytes words.now) ≡ None → Ends usage_text Status.Usage result (S.taken out.old) (S.taken out.new) }
-    ensures usage_still { command_said (map string_bytes words.now) ≡ None → Y.seen yard.new ≡ Y.seen yard.old }
     ensures usage_only { result ≡ Status.Usage → command_said (map string_bytes words.now) ≡ None }
 
     // A schedule that the words ask for is run, and its counts are printed.
@@ -329,13 +385,17 @@ pub fn vdbench_still<Y: Yard, S: Sink>(
         (text : List ℕ) × (said : AStatus) × IsStill (Y.seen yard.old) (Y.seen yard.new) parameters text said
         × Ends text said result (S.taken out.old) (S.taken out.new) }
 
-    // Each status of an outside fault has its cause, over whatever yard and output.
+    // Each status of an outside fault has its cause, over whatever yard and output, and with each other status, want of memory and a failed
+    // output aside, nothing of that kind failed. A disk's faults are seen where the yard keeps it.
     ensures yard_fault { result ≡ Status.Yard → Rose (Y.seen yard.old).faults (Y.seen yard.new).faults }
     ensures yard_quiet { result ≢ Status.Yard → result ≢ Status.Sink → result ≢ Status.NoMemory → (Y.seen yard.new).faults ≡ (Y.seen yard.old).faults }
     ensures source_fault { result ≡ Status.Source → (file : List ℕ) → file_of (map string_bytes words.now) ≡ Some file →
         Rose (source_faults (Y.seen yard.old).counts file) (source_faults (Y.seen yard.new).counts file) }
     ensures source_quiet { result ≢ Status.Source → result ≢ Status.Sink → result ≢ Status.NoMemory → (path : List ℕ) →
         source_faults (Y.seen yard.new).counts path ≡ source_faults (Y.seen yard.old).counts path }
+    ensures disk_fault { result ≡ Status.Journal → IsTrue (Y.seen yard.old).tells.keeps_disks → DiskFailed (Y.seen yard.old) (Y.seen yard.new) }
+    ensures disk_quiet { result ≢ Status.Journal → result ≢ Status.Sink → result ≢ Status.NoMemory → (path : List ℕ) →
+        kept_at (Y.seen yard.new).disks path ≡ kept_at (Y.seen yard.old).disks path }
     ensures device_fault { result ≡ Status.Device → (path : List ℕ) × Rose (arm_faults (Y.seen yard.old).counts path) (arm_faults (Y.seen yard.new).counts path) }
     ensures device_quiet { result ≢ Status.Device → result ≢ Status.Sink → result ≢ Status.NoMemory → (path : List ℕ) →
         arm_faults (Y.seen yard.new).counts path ≡ arm_faults (Y.seen yard.old).counts path }
@@ -347,10 +407,7 @@ pub fn vdbench_still<Y: Yard, S: Sink>(
         let status = run_without_file(alloc, words, &mut printer, out);
         return end(status, &mut printer, out);
     };
-    let Ok(file) = Text::from_str(alloc, name) else {
-        return end(Status::NoMemory, &mut printer, out);
-    };
-    let status = run_file(alloc, yard, &file, &mut printer, out);
+    let status = run_named(alloc, yard, name, &mut printer, out);
     end(status, &mut printer, out)
 }
 

@@ -13,7 +13,7 @@ ghost use Rattle.recover_run.specs.Part.{ArePart, Called};
 ghost use Rattle.run_report.specs.Findings.{IsPrintable};
 ghost use Rattle.run_report.specs.Says.{Says, printing};
 ghost use Rattle.vd_yard.specs.Contents.{AreBlocks};
-ghost use Rattle.vdbench_top.specs.Verification.{findings_text, counted_of, lines_of, store_text, ArePassesOf, FaultsRose, CameSoFar, is_pending as pends, is_bad as is_bad_entry};
+ghost use Rattle.vdbench_top.specs.Verification.{findings_text, counted_of, lines_of, store_text, ArePassesOf, CountsRose, CameSoFar, is_pending as pends, is_bad as is_bad_entry};
 ghost use Rattle.vdbench_top.specs.Findings.{are_corrupt, are_unread, plus, AreSmall};
 
 use block_verdict::Finding;
@@ -343,7 +343,7 @@ pub fn verify_store<Y: Yard, S: Sink>(
         × ArePassesOf (Y.seen yard.old) store.now passes
         × AreLooks store.now.id entries.now passes looks
         × (counted ≡ counted_of entries.now looks)
-        × FaultsRose (Y.seen yard.old) (Y.seen yard.new) store.now.path (count_by is_unread_look looks)
+        × CountsRose (Y.seen yard.old) (Y.seen yard.new) store.now.path looks
         × Says (printing printer.old.failed (S.taken out.old) (S.faults out.old)) (printing printer.new.failed (S.taken out.new) (S.faults out.new))
         (store_text store.now.id entries.now looks)) }
     ensures front { OnErr result (CameSoFar (Y.seen yard.old) (Y.seen yard.new) store.now entries.now

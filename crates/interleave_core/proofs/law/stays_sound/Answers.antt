@@ -1,4 +1,5 @@
 use Rattle.interleave_core.proofs.Always.{always_sound, always_fits, stopped_fits, recovers_all}
+use Rattle.interleave_core.proofs.Valid.{always_valid}
 use Rattle.interleave_core.proofs.Wrong.{none_wrong, all_counted}
 use Rattle.interleave_core.proofs.law.stays_sound.Goals as goal
 
@@ -25,3 +26,6 @@ returns-clause-wrong c = none_wrong
 
 pub returns-clause-steps : goal.returns-clause-steps
 returns-clause-steps c = all_counted
+
+pub returns-clause-entries : goal.returns-clause-entries
+returns-clause-entries c = always_valid c.entries_stay.ensures

@@ -3,7 +3,7 @@ use Rattle.std.proofs.lemmas.Bool.{cases_eq}
 use Rattle.std.proofs.lemmas.List.{get_or_append_left, get_or_push, get_or_read, length_push}
 use Rattle.vd_disk.specs.Disk.{Sectors, present}
 use Rattle.vd_disk.specs.Step.{tables_from}
-use Rattle.vd_disk.specs.Tale.{row-first, length-present, picked_is_image}
+use Rattle.vd_disk.specs.Tale.{length-present, picked_is_image}
 use Rattle.vd_disk.proofs.memory.picked.Goals as goal
 
 pub loop-i-preserved : goal.loop-i-preserved
@@ -13,9 +13,8 @@ loop-i-preserved c =
     let i = c.loop-i.i in
     let held = c.in_ok-held.held.items in
     let x = c.index.result.now in
-    let within : i < length first = search rules in
     let pushed : c.push.new.self.items ≡ c.loop-i.image.items ++ x ∷ [] = search rules in
-    let row : held ≡ get_or (present (tables_from first steps)) i [] = c.in_ok-held.ensures.row ∙ sym (row-first i first steps within) in
+    let row : held ≡ get_or (present (tables_from first steps)) i [] = c.in_ok-held.ensures.row in
     let place : (i + 1) * c.args.pick % 2 ^ 64 % length held < length held = omega (arith, c.in_ok-held.ensures.some) in
     let read : x ≡ get_or held ((i + 1) * c.args.pick % 2 ^ 64 % length held) x = search rules in
     let is : x ≡ get_or held ((i + 1) * c.args.pick % 2 ^ 64 % length held) [] = get_or_read held _ x place read [] in
@@ -33,8 +32,8 @@ loop-i-preserved c =
 
 pub returns-clause-picked : goal.returns-clause-picked
 returns-clause-picked c =
-    let many : length (present (tables_from c.args.first.now c.args.steps.now)) ≡ length c.args.first.now = length-present c.args.first.now c.args.steps.now in
-    let all : c.loop-i.i ≡ length c.args.first.now = search rules in
+    let many : length (present (tables_from c.args.first.now c.args.steps.now)) ≡ c.args.sectors = length-present c.args.first.now c.args.steps.now ∙ sym c.requires.all in
+    let all : c.loop-i.i ≡ c.args.sectors = search rules in
     record {
       size = c.loop-i.invariant.size ∙ all ∙ sym many;
       each = λ i below. c.loop-i.invariant.each i (omega (arith, below, all, many));

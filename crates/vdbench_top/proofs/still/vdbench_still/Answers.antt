@@ -1,13 +1,14 @@
-use Rattle.std.proofs.Common.{refl, inl, [], sym}
+use Rattle.std.proofs.Common.{◌∙◌, List, ℕ, subst, sym}
 use Rattle.std.specs.Prelude.{map, string_bytes}
 use Rattle.vdbench_top.specs.Words.{file_of, steps_of}
 use Rattle.run_report.specs.declared.status.Status.TheVariants as status
-use Rattle.run_report.specs.Says.{says_none}
-use Rattle.vdbench_top.specs.Still.{still, cut, nothing}
+use Rattle.vd_outside.specs.Causes.{Rose}
+use Rattle.vd_yard.specs.Counts.{source_faults}
 use Rattle.vdbench_top.proofs.Schedules.{no_steps, said_usage, said_steps, not_both, ends_usage}
-use Rattle.vdbench_top.proofs.Tellings.{ends_by, honest, same_file, told_along, bytes_along}
+use Rattle.vdbench_top.proofs.Tellings.{ends_by, honest, its_status, name_is, not_status, told_along, bytes_along, sink_rose}
 use Rattle.vdbench_top.proofs.still.vdbench_still.Goals as goal
 
+-- ---- words that name no file
 pub returns-in_default-clause-usage : goal.returns-in_default-clause-usage
 returns-in_default-clause-usage g c none =
     let v = c.run_without_file-status.ensures.said in
@@ -23,53 +24,6 @@ returns-in_default-clause-simulation g c n is =
       ends_by _ _ _ v.0 _ _ v.1 c.end.ensures.says c.end.ensures.failed c.end.ensures.good (λ e. absurd (c.run_without_file-status.ensures.no_sink e)),
     )
 
-pub returns-in_default-from_str-clause-simulation : goal.returns-in_default-from_str-clause-simulation
-returns-in_default-from_str-clause-simulation g c n is = absurd (not_both (map string_bytes c.args.words.now) _ n (sym c.in-Some.ensures) is)
-
-pub returns-clause-simulation : goal.returns-clause-simulation
-returns-clause-simulation g c n is = absurd (not_both (map string_bytes c.args.words.now) _ n (sym c.in-Some.ensures) is)
-
-pub returns-in_default-from_str-clause-told : goal.returns-in_default-from_str-clause-told
-returns-in_default-from_str-clause-told g c file parameters is told = (
-  [],
-  status.NoMemory,
-  still (cut (nothing refl) (inl refl)),
-  ends_by _ _ _ [] status.NoMemory _ (says_none _) c.end-in_default-from_str.ensures.says c.end-in_default-from_str.ensures.failed c.end-in_default-from_str.ensures.good (λ e. cc),
-)
-
-pub returns-in_default-from_str-clause-answer : goal.returns-in_default-from_str-clause-answer
-returns-in_default-from_str-clause-answer g c file parameters is told h = (
-  [],
-  status.NoMemory,
-  cut (nothing refl) (inl refl),
-  ends_by _ _ _ [] status.NoMemory _ (says_none _) c.end-in_default-from_str.ensures.says c.end-in_default-from_str.ensures.failed c.end-in_default-from_str.ensures.good (λ e. cc),
-)
-
-pub returns-clause-blocks : goal.returns-clause-blocks
-returns-clause-blocks g c file parameters store is bytes at =
-    let same = same_file _ _ file _ c.in-Some.ensures c.in-Ok.ensures is in
-    c.run_file-status.ensures.blocks parameters store (bytes_along (g.Y.Yard.seen c.args.yard.now) _ _ _ same bytes) at
-
-pub returns-clause-told : goal.returns-clause-told
-returns-clause-told g c file parameters is told =
-    let v = c.run_file-status.ensures.said in
-    let same = same_file _ _ file _ c.in-Some.ensures c.in-Ok.ensures is in (
-      v.0,
-      c.run_file-status.result,
-      told_along _ _ file _ parameters v.0 _ same told v.2,
-      ends_by _ _ _ v.0 _ _ v.1 c.end-2.ensures.says c.end-2.ensures.failed c.end-2.ensures.good c.run_file-status.ensures.output,
-    )
-
-pub returns-clause-answer : goal.returns-clause-answer
-returns-clause-answer g c file parameters is told h =
-    let v = c.run_file-status.ensures.said in
-    let same = same_file _ _ file _ c.in-Some.ensures c.in-Ok.ensures is in (
-      v.0,
-      c.run_file-status.result,
-      honest _ _ file parameters v.0 _ h (told_along _ _ file _ parameters v.0 _ same told v.2),
-      ends_by _ _ _ v.0 _ _ v.1 c.end-2.ensures.says c.end-2.ensures.failed c.end-2.ensures.good c.run_file-status.ensures.output,
-    )
-
 pub returns-in_default-clause-ends : goal.returns-in_default-clause-ends
 returns-in_default-clause-ends g c =
     let v = c.run_without_file-status.ensures.said in (
@@ -78,17 +32,125 @@ returns-in_default-clause-ends g c =
       ends_by _ _ _ v.0 _ _ v.1 c.end.ensures.says c.end.ensures.failed c.end.ensures.good (λ e. absurd (c.run_without_file-status.ensures.no_sink e)),
     )
 
-pub returns-in_default-from_str-clause-ends : goal.returns-in_default-from_str-clause-ends
-returns-in_default-from_str-clause-ends g c = (
-  [],
-  status.NoMemory,
-  ends_by _ _ _ [] status.NoMemory _ (says_none _) c.end-in_default-from_str.ensures.says c.end-in_default-from_str.ensures.failed c.end-in_default-from_str.ensures.good (λ e. cc),
-)
+-- ---- what a run leaves
+pub returns-clause-keeps : goal.returns-clause-keeps
+returns-clause-keeps g c = c.run_named-status.ensures.keeps
+
+pub returns-clause-journals : goal.returns-clause-journals
+returns-clause-journals g c = c.run_named-status.ensures.journals
+
+pub returns-clause-no_file : goal.returns-clause-no_file
+returns-clause-no_file g c none = absurd (let e = c.in-Some.ensures ∙ none in cc)
+
+pub returns-clause-contents : goal.returns-clause-contents
+returns-clause-contents g c = c.run_named-status.ensures.contents
+
+pub returns-clause-untouched : goal.returns-clause-untouched
+returns-clause-untouched g c good corrupt device yard sink memory =
+    c.run_named-status.ensures.untouched
+    (not_status _ _ _ status.Good c.end-2.ensures.failed c.end-2.ensures.good sink good)
+    (not_status _ _ _ status.Corrupt c.end-2.ensures.failed c.end-2.ensures.good sink corrupt)
+    (not_status _ _ _ status.Device c.end-2.ensures.failed c.end-2.ensures.good sink device)
+    (not_status _ _ _ status.Yard c.end-2.ensures.failed c.end-2.ensures.good sink yard)
+    (not_status _ _ _ status.Sink c.end-2.ensures.failed c.end-2.ensures.good sink sink)
+    (not_status _ _ _ status.NoMemory c.end-2.ensures.failed c.end-2.ensures.good sink memory)
+
+pub returns-clause-blocks : goal.returns-clause-blocks
+returns-clause-blocks g c file parameters store is told at =
+    c.run_named-status.ensures.blocks parameters store (bytes_along (g.Y.Yard.seen c.args.yard.now) _ _ _ (name_is _ _ file c.in-Some.ensures is) told) at
+
+pub returns-clause-refused : goal.returns-clause-refused
+returns-clause-refused g c file parameters is told none =
+    c.run_named-status.ensures.refused parameters (bytes_along (g.Y.Yard.seen c.args.yard.now) _ _ _ (name_is _ _ file c.in-Some.ensures is) told) none
+
+-- ---- what it says
+pub returns-clause-simulation : goal.returns-clause-simulation
+returns-clause-simulation g c n is = absurd (not_both (map string_bytes c.args.words.now) _ n (sym c.in-Some.ensures) is)
 
 pub returns-clause-ends : goal.returns-clause-ends
 returns-clause-ends g c =
-    let v = c.run_file-status.ensures.said in (
+    let v = c.run_named-status.ensures.said in (
       v.0,
-      c.run_file-status.result,
-      ends_by _ _ _ v.0 _ _ v.1 c.end-2.ensures.says c.end-2.ensures.failed c.end-2.ensures.good c.run_file-status.ensures.output,
+      c.run_named-status.result,
+      ends_by _ _ _ v.0 _ _ v.1 c.end-2.ensures.says c.end-2.ensures.failed c.end-2.ensures.good c.run_named-status.ensures.output,
     )
+
+pub returns-clause-told : goal.returns-clause-told
+returns-clause-told g c file parameters is told =
+    let v = c.run_named-status.ensures.said in
+    let same = name_is _ _ file c.in-Some.ensures is in (
+      v.0,
+      c.run_named-status.result,
+      told_along _ _ file _ parameters v.0 _ same told v.2,
+      ends_by _ _ _ v.0 _ _ v.1 c.end-2.ensures.says c.end-2.ensures.failed c.end-2.ensures.good c.run_named-status.ensures.output,
+    )
+
+pub returns-clause-answer : goal.returns-clause-answer
+returns-clause-answer g c file parameters is told h =
+    let v = c.run_named-status.ensures.said in
+    let same = name_is _ _ file c.in-Some.ensures is in (
+      v.0,
+      c.run_named-status.result,
+      honest _ _ file parameters v.0 _ h (told_along _ _ file _ parameters v.0 _ same told v.2),
+      ends_by _ _ _ v.0 _ _ v.1 c.end-2.ensures.says c.end-2.ensures.failed c.end-2.ensures.good c.run_named-status.ensures.output,
+    )
+
+-- ---- its causes
+pub returns-clause-yard_fault : goal.returns-clause-yard_fault
+returns-clause-yard_fault g c e = c.run_named-status.ensures.causes.yard (its_status _ _ _ status.Yard c.end-2.ensures.failed c.end-2.ensures.good (λ x. cc) e)
+
+pub returns-clause-yard_quiet : goal.returns-clause-yard_quiet
+returns-clause-yard_quiet g c yard sink memory =
+    c.run_named-status.ensures.yard_quiet
+    (not_status _ _ _ status.Yard c.end-2.ensures.failed c.end-2.ensures.good sink yard)
+    (not_status _ _ _ status.NoMemory c.end-2.ensures.failed c.end-2.ensures.good sink memory)
+
+pub returns-clause-source_quiet : goal.returns-clause-source_quiet
+returns-clause-source_quiet g c source sink memory path =
+    c.run_named-status.ensures.source_quiet
+    (not_status _ _ _ status.Source c.end-2.ensures.failed c.end-2.ensures.good sink source)
+    (not_status _ _ _ status.NoMemory c.end-2.ensures.failed c.end-2.ensures.good sink memory)
+    path
+
+pub returns-clause-disk_fault : goal.returns-clause-disk_fault
+returns-clause-disk_fault g c e keeps =
+    c.run_named-status.ensures.disk_fault (its_status _ _ _ status.Journal c.end-2.ensures.failed c.end-2.ensures.good (λ x. cc) e) keeps
+
+pub returns-clause-disk_quiet : goal.returns-clause-disk_quiet
+returns-clause-disk_quiet g c journal sink memory path =
+    c.run_named-status.ensures.disk_quiet
+    (not_status _ _ _ status.Journal c.end-2.ensures.failed c.end-2.ensures.good sink journal)
+    (not_status _ _ _ status.NoMemory c.end-2.ensures.failed c.end-2.ensures.good sink memory)
+    path
+
+pub returns-clause-device_fault : goal.returns-clause-device_fault
+returns-clause-device_fault g c e = c.run_named-status.ensures.causes.device (its_status _ _ _ status.Device c.end-2.ensures.failed c.end-2.ensures.good (λ x. cc) e)
+
+pub returns-clause-device_quiet : goal.returns-clause-device_quiet
+returns-clause-device_quiet g c device sink memory path =
+    c.run_named-status.ensures.causes.quiet
+    (not_status _ _ _ status.Device c.end-2.ensures.failed c.end-2.ensures.good sink device)
+    (not_status _ _ _ status.Sink c.end-2.ensures.failed c.end-2.ensures.good sink sink)
+    (not_status _ _ _ status.NoMemory c.end-2.ensures.failed c.end-2.ensures.good sink memory)
+    path
+
+pub returns-clause-usage_only : goal.returns-clause-usage_only
+returns-clause-usage_only g c e = absurd (c.run_named-status.ensures.causes.no_usage (its_status _ _ _ status.Usage c.end-2.ensures.failed c.end-2.ensures.good (λ x. cc) e))
+
+pub returns-clause-no_epoch : goal.returns-clause-no_epoch
+returns-clause-no_epoch g c e = c.run_named-status.ensures.causes.no_epoch (its_status _ _ _ status.EpochEnd c.end-2.ensures.failed c.end-2.ensures.good (λ x. cc) e)
+
+pub returns-clause-source_fault : goal.returns-clause-source_fault
+returns-clause-source_fault g c e file is =
+    subst (λ (path : List ℕ). Rose (source_faults (g.Y.Yard.seen c.args.yard.now).counts path) (source_faults (g.Y.Yard.seen c.run_named-status.new.yard).counts path)) (sym (name_is _ _ file c.in-Some.ensures is))
+    (c.run_named-status.ensures.source (its_status _ _ _ status.Source c.end-2.ensures.failed c.end-2.ensures.good (λ x. cc) e))
+
+pub returns-clause-sink_fault : goal.returns-clause-sink_fault
+returns-clause-sink_fault g c e =
+    let v = c.run_named-status.ensures.said in
+    (sink_rose _ _ _ v.0 _ _ c.new-printer.ensures v.1 c.end-2.ensures.says c.end-2.ensures.failed c.end-2.ensures.good c.run_named-status.ensures.output).0 e
+
+pub returns-clause-sink_quiet : goal.returns-clause-sink_quiet
+returns-clause-sink_quiet g c n =
+    let v = c.run_named-status.ensures.said in
+    (sink_rose _ _ _ v.0 _ _ c.new-printer.ensures v.1 c.end-2.ensures.says c.end-2.ensures.failed c.end-2.ensures.good c.run_named-status.ensures.output).1 n

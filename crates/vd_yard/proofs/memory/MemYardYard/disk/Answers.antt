@@ -1,6 +1,8 @@
 use Rattle.std.proofs.Common.{◌≡◌, rules, refl, sym, ap, ◌∙◌, None, List, ℕ}
 use Rattle.vd_yard.specs.Out.{AtDisk, AtPasses}
 use Rattle.vd_yard.specs.Kept.{kept_at}
+use Rattle.std.specs.Prelude.{Some}
+use Rattle.vd_yard.specs.MemYard.{disks_in}
 use Rattle.vd_yard.specs.PathMap.{map_of}
 use Rattle.vd_yard.specs.Ledger.{ledger_out}
 use Rattle.vd_yard.proofs.Came.{still_willing, never_refused}
@@ -44,8 +46,8 @@ returns-in_default-clause-opens c = record {
 pub returns-in_default-clause-willing : goal.returns-in_default-clause-willing
 returns-in_default-clause-willing c = λ willing there failed.
     let d = c.args.self.now in
-    let none : kept_at (map_of d.disks) c.args.path.now ≡ None =
-    ap (λ (q : List ℕ). kept_at (map_of d.disks) q) (sym c.as_bytes.ensures) ∙ c.in_default.ensures in
+    let none : kept_at (disks_in (map_of d.disks)) c.args.path.now ≡ None =
+    ap (λ (q : List ℕ). kept_at (disks_in (map_of d.disks)) q) (sym c.as_bytes.ensures) ∙ c.in_default.ensures in
     disk_not_there (map_of d.files) (map_of d.disks) (map_of d.contents) c.args.path.now none there
 
 pub returns-in_default-copy-clause-opens : goal.returns-in_default-copy-clause-opens
@@ -67,7 +69,7 @@ pub invariant_of-self-2 : goal.invariant_of-self-2
 invariant_of-self-2 c =
     let d = c.args.self.now in
     record {
-      disks_there = opened_here AtDisk c.args.path.now (ledger_out d.ledger) (ledger_out c.open.new.self) (map_of d.disks) c.open.result c.open.ensures.out c.open.ensures.err (found_some c.as_bytes.result.now c.args.path.now (map_of d.disks) c.in-Some.disk.now c.as_bytes.ensures c.in-Some.ensures) d.disks_there;
+      disks_there = opened_here AtDisk c.args.path.now (ledger_out d.ledger) (ledger_out c.open.new.self) (map_of d.disks) c.open.result c.open.ensures.out c.open.ensures.err (found_some c.as_bytes.result.now c.args.path.now (map_of d.disks) (Some c.in-Some.disk.now) c.as_bytes.ensures c.in-Some.ensures) d.disks_there;
       contents_there = opened_other AtPasses AtDisk c.args.path.now (ledger_out d.ledger) (ledger_out c.open.new.self) (map_of d.contents) c.open.result c.open.ensures.out c.open.ensures.err refl d.contents_there;
     }
 
