@@ -1,0 +1,14 @@
+pub mod Runs
+pub mod Chains
+pub mod Lists
+pub mod LineLoop
+pub mod Once
+pub mod Files
+pub mod FileLoop
+pub mod Lying
+pub mod Pieces
+pub mod FilePieces
+pub mod Spelled
+pub mod Read
+pub mod Wanted
+pub mod Counts

@@ -1,0 +1,42 @@
+// Names with numbers behind them.
+ghost use Rattle.std.specs.Prelude.{◌≡◌, ◌≤◌, ◌+◌, ◌++◌, IfOk, decimal};
+ghost use Rattle.wildcards.specs.Numbered.{names_of};
+
+use std::alloc::{AllocError, Global};
+use vd_outside::{NoMemory, Text};
+
+/// A name with a number behind it.
+fn numbered(alloc: Global, name: &Text, number: u32) -> Result<Text, AllocError>
+    ensures { IfOk result (λ text. text ≡ name.now ++ decimal number) }
+{
+    Ok(Text::of(format!(in alloc; "{name}{number}")?))
+}
+
+fn numbered_names(
+    alloc: Global,
+    name: &Text,
+    first: u32,
+    many: u32,
+) -> Result<Vec<Text>, AllocError>
+    requires { first + many ≤ 1000000 }
+    ensures { IfOk result (λ names. names.items ≡ names_of name.now first many) }
+{
+    let mut names = Vec::new(alloc);
+    for i in 0..many {
+        names.push(numbered(alloc, name, first + i)?)?;
+    }
+    Ok(names)
+}
+
+/// The name with `first`, `first + 1` and so on behind it in decimal, `many` names in all.
+pub fn expand_count(
+    alloc: Global,
+    name: &Text,
+    first: u32,
+    many: u32,
+) -> Result<Vec<Text>, NoMemory>
+    requires { first + many ≤ 1000000 }
+    ensures { IfOk result (λ names. names.items ≡ names_of name.now first many) }
+{
+    Ok(numbered_names(alloc, name, first, many)?)
+}
