@@ -1,0 +1,16 @@
+pub mod Sums
+pub mod LaneSteps
+pub mod Basics
+pub mod WordParts
+pub mod SlotParts
+pub mod Steps
+pub mod HeldSteps
+pub mod AtSteps
+pub mod BadCount
+pub mod LockSteps
+pub mod RunSteps
+pub mod TestParts
+pub mod SeatSteps
+pub mod LastState
+pub mod Taking
+pub mod FirstState

@@ -1,0 +1,13 @@
+pub mod Codes
+pub mod Lanes
+pub mod Sums
+pub mod Views
+pub mod Passes
+pub mod Books
+pub mod Rule
+pub mod Plays
+pub mod Runs
+pub mod Firsts
+pub mod Seats
+pub mod Closings
+pub mod Openings

@@ -1,0 +1,61 @@
+-- Runs of blocks that a seat claims and releases.
+use Rattle.std.specs.Prelude.{⊤, ◌≡◌, ◌≢◌, ℕ, ◌+◌, ◌%◌, ◌^◌, ◌<◌, ◌≤◌, List, [], ◌∷◌, length}
+use Rattle.vd_arm.specs.Arm.{PassSeen}
+use Rattle.key_state.specs.Entries.{IsEntry}
+use Rattle.key_state.specs.declared.entry.Entry.{Entry}
+use Rattle.key_state.specs.declared.entry.Entry.TheVariants.{Bad}
+use Rattle.claim_table.specs.Lanes.{lane}
+use Rattle.claim_table.specs.Sums.{Each}
+use Rattle.claim_table.specs.Views.{parts_in, claimed, turned_away, met_bad, released}
+use Rattle.claim_table.specs.Passes.{IsPassFor}
+use Rattle.claim_table.specs.declared.view.Item.{Item}
+use Rattle.claim_table.specs.declared.view.View.{View}
+use Rattle.claim_table.specs.declared.view.Made.{Made}
+use Rattle.claim_table.specs.declared.run.RunClaim.{RunClaim}
+use Rattle.claim_table.specs.declared.run.RunClaim.TheVariants as run_claim
+
+-- the view after blocks were claimed, from the first on, with these entries
+abbrev pub claimed_all : View → ℕ → List Entry → View
+claimed_all view first [] = view
+claimed_all view first (entry ∷ entries) = claimed_all (claimed view first entry) (first + 1) entries
+
+-- The newest of the held items are blocks from the first on with these entries in the book, and the others are left.
+abbrev pub AreNewest : ℕ → List Entry → List Item → List Item → Type 0
+AreNewest first [] held others = held ≡ others
+AreNewest first (entry ∷ entries) held others = (i : Item) × (i.block ≡ first) × (i.own ≡ entry) × AreNewest (first + 1) entries held (i ∷ others)
+
+-- Each pass is its block's, and its bytes fit the block's entry where told.
+abbrev pub ArePassesFor : {P : Type 0} → (P → PassSeen) → Made → ℕ → List Entry → List P → Type 0
+ArePassesFor pass_seen made first [] [] = ⊤
+ArePassesFor pass_seen made first [] (pass ∷ passes) = ⊥
+ArePassesFor pass_seen made first (entry ∷ entries) [] = ⊥
+ArePassesFor pass_seen made first (entry ∷ entries) (pass ∷ passes) = IsPassFor made first entry (pass_seen pass) × ArePassesFor pass_seen made (first + 1) entries passes
+
+-- an entry with which a block can be had
+abbrev pub CanBeHad : Entry → Type 0
+CanBeHad entry = IsEntry entry × (entry ≢ Bad)
+
+-- What a claim of many blocks answers, by the view before and after it. One that is turned away had the blocks below, and released them.
+abbrev pub RunAnswers : {P : Type 0} → (P → PassSeen) → View → ℕ → ℕ → RunClaim P → View → Type 0
+RunAnswers pass_seen before first many (run_claim.Claimed run) after =
+    (run.first.0 ≡ first)
+    × (length run.entries.items ≡ many)
+    × Each CanBeHad run.entries.items
+    × (after ≡ claimed_all before first run.entries.items)
+    × ArePassesFor pass_seen before.made first run.entries.items run.passes.items
+RunAnswers pass_seen before first many (run_claim.Busy room block word) after =
+    (had : List Entry)
+    × Each CanBeHad had
+    × (length had < many)
+    × (block.0 ≡ first + length had)
+    × (2 ^ 15 ≤ lane word (block.0 % 4))
+    × (after ≡ released (turned_away (claimed_all before first had) block.0 word) before.held)
+    × (before.parts < parts_in before.made)
+    × (room.entries.items ≡ [])
+RunAnswers pass_seen before first many (run_claim.BadBlock room block) after =
+    (had : List Entry)
+    × Each CanBeHad had
+    × (length had < many)
+    × (block.0 ≡ first + length had)
+    × (after ≡ released (met_bad (claimed_all before first had) block.0) before.held)
+    × (room.entries.items ≡ [])
