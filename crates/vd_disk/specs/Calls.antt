@@ -2,6 +2,7 @@
 use Rattle.std.specs.Prelude.{◌≡◌, ℕ, ◌+◌, ◌-◌, ◌^◌, ◌==◌, min, Bool, true, false, ◌&&◌, ◌||◌, List, [], ◌∷◌, Option, Some, None, is_none, refl}
 use Rattle.std.specs.List.{list_any}
 use Rattle.vd_outside.specs.Streams.{is_empty}
+use Rattle.vd_disk.specs.declared.calls.CallCounts.{CallCounts}
 
 -- the numbers of the calls that fail, how many calls were made, and how many more the fuse lets go on
 pub record Calls : Type 0 where
@@ -24,6 +25,22 @@ burnt_on (Some left) = Some (left - 1)
 -- one call was made
 abbrev pub one_more : Calls → Calls
 one_more calls = record { failing = calls.failing; made = min (calls.made + 1) (2 ^ 64 - 1); fuse = burnt_on calls.fuse }
+
+abbrev pub no_calls : CallCounts
+no_calls = record { reads = 0; writes = 0; syncs = 0 }
+
+abbrev pub held_more : ℕ → ℕ
+held_more count = min (count + 1) (2 ^ 64 - 1)
+
+-- one read, write or sync more
+abbrev pub read_more : CallCounts → CallCounts
+read_more counts = record counts { reads = held_more counts.reads }
+
+abbrev pub write_more : CallCounts → CallCounts
+write_more counts = record counts { writes = held_more counts.writes }
+
+abbrev pub sync_more : CallCounts → CallCounts
+sync_more counts = record counts { syncs = held_more counts.syncs }
 
 -- No call is to fail.
 abbrev pub is_sure : Calls → Bool

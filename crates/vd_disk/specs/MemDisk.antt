@@ -3,6 +3,7 @@ use Rattle.std.specs.Prelude.{◌≡◌, ℕ, List, [], ◌∷◌, length, Some,
 use Rattle.vd_outside.specs.Streams.{is_empty}
 use Rattle.vd_disk.specs.Disk.{Sectors, DiskSeen, WhenTold, IsTale, settled}
 use Rattle.vd_disk.specs.Calls.{Calls, is_sure}
+use Rattle.vd_disk.specs.declared.calls.CallCounts.{CallCounts}
 use Rattle.vd_disk.specs.Step.{tables_from}
 use Rattle.vd_disk.specs.Tale.{tale_of}
 use Rattle.vd_disk.specs.declared.memory.MemDisk.{MemDisk}
@@ -19,6 +20,10 @@ mem_disk_seen disk = record {
 -- which of its calls fail
 abbrev pub calls_of : MemDisk → Calls
 calls_of disk = disk.plan
+
+-- how many calls of each kind were made
+abbrev pub counts_of : MemDisk → CallCounts
+counts_of disk = disk.counts
 
 -- a new disk: at rest with these sectors, no fault counted
 abbrev pub at_rest : Sectors → List ℕ → DiskSeen

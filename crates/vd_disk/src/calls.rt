@@ -1,6 +1,6 @@
 // Which calls of a disk in memory fail.
 ghost use Rattle.std.specs.Prelude.{◌≡◌, IfOk, None, Some};
-ghost use Rattle.vd_disk.specs.Calls.{fails_now, one_more};
+ghost use Rattle.vd_disk.specs.Calls.{fails_now, no_calls, one_more, read_more, sync_more, write_more};
 
 use std::alloc::Global;
 use std::marker::Model;
@@ -58,13 +58,6 @@ impl CallPlan {
         self.fuse = Some(calls);
     }
 
-    /// How many calls were made.
-    pub fn made(&self) -> u64
-        ensures { result ≡ self.now.made }
-    {
-        self.made
-    }
-
     /// The same plan once more.
     pub fn copy(&self, alloc: Global) -> Result<CallPlan, NoMemory>
         ensures { IfOk result (λ plan. plan ≡ self.now) }
@@ -74,5 +67,47 @@ impl CallPlan {
             made: self.made,
             fuse: self.fuse,
         })
+    }
+}
+
+/// How many reads, writes and syncs were made, each held at the greatest u64.
+#[derive(Clone, Copy, Drop)]
+pub struct CallCounts {
+    pub reads: u64,
+    pub writes: u64,
+    pub syncs: u64,
+}
+
+impl CallCounts {
+    /// No call was made.
+    pub fn new() -> CallCounts
+        ensures { result ≡ no_calls }
+    {
+        CallCounts {
+            reads: 0,
+            writes: 0,
+            syncs: 0,
+        }
+    }
+
+    /// One read more.
+    pub fn count_read(&mut self)
+        ensures { self.new ≡ read_more self.old }
+    {
+        self.reads = self.reads.saturating_add(1);
+    }
+
+    /// One write more.
+    pub fn count_write(&mut self)
+        ensures { self.new ≡ write_more self.old }
+    {
+        self.writes = self.writes.saturating_add(1);
+    }
+
+    /// One sync more.
+    pub fn count_sync(&mut self)
+        ensures { self.new ≡ sync_more self.old }
+    {
+        self.syncs = self.syncs.saturating_add(1);
     }
 }

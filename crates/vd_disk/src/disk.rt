@@ -8,7 +8,7 @@ use vd_outside::Failed;
 
 /// A row of sectors, each written whole. After a stop each sector, independently, holds what it held at the last sync that
 /// answered Ok, or anything written to it since.
-pub trait Disk: Drop + Send {
+pub trait Disk: Drop {
     /// All that contracts see of it: plain data, the same after a move.
     ghost seen: { Self → DiskSeen };
 

@@ -6,7 +6,7 @@ ghost use Rattle.vd_disk.specs.Step.{HasRow, now_after, now_next, table_next, ta
 ghost use Rattle.vd_disk.specs.Tale.{IsPicked};
 
 use crate::Disk;
-use crate::calls::CallPlan;
+use crate::calls::{CallCounts, CallPlan};
 use std::alloc::{AllocError, Global};
 use vd_base::Sector;
 use vd_outside::{Failed, NoMemory};
@@ -30,6 +30,7 @@ pub struct MemDisk {
     content: Vec<Sector>,
     steps: Vec<Step>,
     plan: CallPlan,
+    counts: CallCounts,
     faults: u64,
     ghost replays: { content.items ≡ now_after first.items steps.items } by { Prim.hlevel props },
 }
@@ -217,12 +218,14 @@ fn is_noted(steps: &mut Vec<Step>, step: Step) -> bool
 }
 
 impl MemDisk {
-    ghost use Rattle.vd_disk.specs.MemDisk.{mem_disk_seen, calls_of, at_rest};
+    ghost use Rattle.vd_disk.specs.Calls.{no_calls};
+    ghost use Rattle.vd_disk.specs.MemDisk.{mem_disk_seen, calls_of, counts_of, at_rest};
 
     /// A disk of zeros, at rest. The reads, writes and syncs with these numbers, counted together from 0, fail.
     pub fn new(alloc: Global, sectors: u64, failing: Vec<u64>) -> Result<MemDisk, NoMemory>
         ensures seen { IfOk result (λ disk. mem_disk_seen disk ≡ at_rest (replicate sectors (replicate 512 0)) failing.items) }
         ensures calls { IfOk result (λ disk. calls_of disk ≡ record { failing = failing.items; made = 0; fuse = None }) }
+        ensures counts { IfOk result (λ disk. counts_of disk ≡ no_calls) }
     {
         let content = zeros(alloc, sectors)?;
         MemDisk::of(alloc, content, failing)
@@ -232,6 +235,7 @@ impl MemDisk {
     pub fn of(alloc: Global, sectors: Vec<Sector>, failing: Vec<u64>) -> Result<MemDisk, NoMemory>
         ensures seen { IfOk result (λ disk. mem_disk_seen disk ≡ at_rest sectors.items failing.items) }
         ensures calls { IfOk result (λ disk. calls_of disk ≡ record { failing = failing.items; made = 0; fuse = None }) }
+        ensures counts { IfOk result (λ disk. counts_of disk ≡ no_calls) }
     {
         let first = copied(alloc, &sectors)?;
         Ok(MemDisk {
@@ -239,6 +243,7 @@ impl MemDisk {
             content: sectors,
             steps: Vec::new(alloc),
             plan: CallPlan::new(failing),
+            counts: CallCounts::new(),
             faults: 0,
         })
     }
@@ -247,6 +252,7 @@ impl MemDisk {
     pub fn copy(&self, alloc: Global) -> Result<MemDisk, NoMemory>
         ensures seen { IfOk result (λ disk. mem_disk_seen disk ≡ mem_disk_seen self.now) }
         ensures calls { IfOk result (λ disk. calls_of disk ≡ calls_of self.now) }
+        ensures counts { IfOk result (λ disk. counts_of disk ≡ counts_of self.now) }
     {
         let first = copied(alloc, &self.first)?;
         let content = copied(alloc, &self.content)?;
@@ -257,6 +263,7 @@ impl MemDisk {
             content,
             steps,
             plan,
+            counts: self.counts,
             faults: self.faults,
         })
     }
@@ -266,6 +273,7 @@ impl MemDisk {
         ensures long_enough { sectors ≤ (mem_disk_seen self.old).sectors → OnOk result (mem_disk_seen self.new ≡ mem_disk_seen self.old) }
         ensures longer { (mem_disk_seen self.old).sectors < sectors → OnOk result (mem_disk_seen self.new ≡ lengthened sectors (mem_disk_seen self.old)) }
         ensures calls { calls_of self.new ≡ calls_of self.old }
+        ensures counts { counts_of self.new ≡ counts_of self.old }
         ensures err { OnErr result (mem_disk_seen self.new ≡ mem_disk_seen self.old) }
     {
         if sectors <= self.content.len() as u64 {
@@ -285,15 +293,21 @@ impl MemDisk {
     pub fn fuse(&mut self, calls: u64)
         ensures seen { mem_disk_seen self.new ≡ record (mem_disk_seen self.old) { sure = false } }
         ensures calls { calls_of self.new ≡ record (calls_of self.old) { fuse = Some calls } }
+        ensures counts { counts_of self.new ≡ counts_of self.old }
     {
         self.plan.set_fuse(calls);
     }
 
-    /// How many reads, writes and syncs were made, held at the greatest u64.
-    pub fn calls(&self) -> u64
-        ensures { result ≡ (calls_of self.now).made }
+    /// How many reads, writes and syncs were made, in this order, each held at the greatest u64.
+    pub fn calls(&self) -> (u64, u64, u64)
+        ensures { result ≡ ((counts_of self.now).reads, (counts_of self.now).writes, (counts_of self.now).syncs) }
     {
-        self.plan.made()
+        let CallCounts {
+            reads,
+            writes,
+            syncs,
+        } = self.counts;
+        (reads, writes, syncs)
     }
 
     /// The sectors as a read gives them.
@@ -315,9 +329,9 @@ impl MemDisk {
 
 impl Disk for MemDisk {
     ghost use Rattle.std.specs.Prelude.{◌↔◌, IsErr, IsTrue, slice_get};
-    ghost use Rattle.vd_disk.specs.Calls.{fails_now, one_more};
+    ghost use Rattle.vd_disk.specs.Calls.{fails_now, one_more, read_more, sync_more, write_more};
     ghost use Rattle.vd_disk.specs.Disk.{Leaves, Syncs, WhenTold, Writes};
-    ghost use Rattle.vd_disk.specs.MemDisk.{calls_of, mem_disk_seen, mem_disk_tale, mem_disk_tells};
+    ghost use Rattle.vd_disk.specs.MemDisk.{calls_of, counts_of, mem_disk_seen, mem_disk_tale, mem_disk_tells};
     ghost use Rattle.vd_outside.specs.Causes.{HasCause};
 
     ghost seen = { mem_disk_seen };
@@ -338,7 +352,9 @@ impl Disk for MemDisk {
         ensures sure { IsTrue (mem_disk_seen self.old).sure → (mem_disk_seen self.new).faults ≡ (mem_disk_seen self.old).faults }
         ensures fails { IsErr result ↔ IsTrue (fails_now (calls_of self.old)) }
         ensures counted { calls_of self.new ≡ one_more (calls_of self.old) }
+        ensures counts { counts_of self.new ≡ read_more (counts_of self.old) }
     {
+        self.counts.count_read();
         if self.plan.next_fails() {
             self.faults = self.faults.saturating_add(1);
             return Err(Failed);
@@ -354,8 +370,10 @@ impl Disk for MemDisk {
         ensures cause { HasCause (mem_disk_seen self.old).faults (mem_disk_seen self.new).faults result }
         ensures fails { IsTrue (fails_now (calls_of self.old)) → IsErr result }
         ensures counted { calls_of self.new ≡ one_more (calls_of self.old) }
+        ensures counts { counts_of self.new ≡ write_more (counts_of self.old) }
         ensures kept { OnErr result ((mem_disk_seen self.new).told ≡ (mem_disk_seen self.old).told) }
     {
+        self.counts.count_write();
         if self.plan.next_fails() {
             self.faults = self.faults.saturating_add(1);
             let _ = is_noted(&mut self.steps, Step::FailedWrite(at, *bytes));
@@ -375,7 +393,9 @@ impl Disk for MemDisk {
         ensures cause { HasCause (mem_disk_seen self.old).faults (mem_disk_seen self.new).faults result }
         ensures fails { IsTrue (fails_now (calls_of self.old)) → IsErr result }
         ensures counted { calls_of self.new ≡ one_more (calls_of self.old) }
+        ensures counts { counts_of self.new ≡ sync_more (counts_of self.old) }
     {
+        self.counts.count_sync();
         if self.plan.next_fails() || !is_noted(&mut self.steps, Step::Sync) {
             self.faults = self.faults.saturating_add(1);
             return Err(Failed);
@@ -416,7 +436,7 @@ mod tests {
             (byte_of(&image, 0), byte_of(&image, 1)),
             (Some(2), Some(3))
         );
-        assert_eq!(rt; disk.calls(), 4);
+        assert_eq!(rt; disk.calls(), (0, 3, 1));
     }
 
     #[test]
@@ -473,7 +493,8 @@ mod tests {
             (byte_of(&image, 0), byte_of(&image, 1)),
             (Some(7), Some(8))
         );
-        assert_eq!(rt; (copy.calls(), disk.calls()), (5, 2));
+        assert_eq!(rt; copy.calls(), (2, 2, 1));
+        assert_eq!(rt; disk.calls(), (1, 1, 0));
     }
 
     #[test]

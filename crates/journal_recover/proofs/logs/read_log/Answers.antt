@@ -49,7 +49,7 @@ pub returns-in-Ok-clause-reads : goal.returns-in-Ok-clause-reads
 returns-in-Ok-clause-reads g c = λ x told.
     let live = c.args.live.now in
     let p = c.loop-place.place in
-    let met = g.met.D.Disk g.world.𝓛 g.world.𝓜 g.world.𝓡 ((λ s held. held), (λ held. held), (λ held. held), λ held. held) in
+    let met = g.met.D.Disk in
     let size = (met.is_tale c.args.disk.now x told).as_many in
     let room : journal_end live ≤ length x = omega (arith, size, c.requires.room) in
     let then : (g.D.Disk.seen c.loop-place.disk).told ≡ Some x = ap (λ (d : DiskSeen). d.told) c.loop-place.invariant.seen ∙ told in
@@ -65,7 +65,7 @@ pub returns-in-Err-clause-reads : goal.returns-in-Err-clause-reads
 returns-in-Err-clause-reads g c = λ x told.
     let live = c.args.live.now in
     let p = c.loop-place.place in
-    let met = g.met.D.Disk g.world.𝓛 g.world.𝓜 g.world.𝓡 ((λ s held. held), (λ held. held), (λ held. held), λ held. held) in
+    let met = g.met.D.Disk in
     let size = (met.is_tale c.args.disk.now x told).as_many in
     let room : journal_end live ≤ length x = omega (arith, size, c.requires.room) in
     let then : (g.D.Disk.seen c.loop-place.disk).told ≡ Some x = ap (λ (d : DiskSeen). d.told) c.loop-place.invariant.seen ∙ told in
@@ -85,7 +85,7 @@ loop-place-preserved g c = record {
   so_far = λ x told.
       let live = c.args.live.now in
       let p = c.loop-place.place in
-      let met = g.met.D.Disk g.world.𝓛 g.world.𝓜 g.world.𝓡 ((λ s held. held), (λ held. held), (λ held. held), λ held. held) in
+      let met = g.met.D.Disk in
       let size = (met.is_tale c.args.disk.now x told).as_many in
       let room : journal_end live ≤ length x = omega (arith, size, c.requires.room) in
       let then : (g.D.Disk.seen c.loop-place.disk).told ≡ Some x = ap (λ (d : DiskSeen). d.told) c.loop-place.invariant.seen ∙ told in

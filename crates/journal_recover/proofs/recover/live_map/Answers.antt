@@ -4,7 +4,7 @@ use Rattle.journal_recover.proofs.recover.live_map.Goals as goal
 
 pub returns-in-Ok-clause-reads : goal.returns-in-Ok-clause-reads
 returns-in-Ok-clause-reads g c = λ x told.
-    let met = g.met.D.Disk g.world.𝓛 g.world.𝓜 g.world.𝓡 ((λ s held. held), (λ held. held), (λ held. held), λ held. held) in
+    let met = g.met.D.Disk in
     let size = (met.is_tale c.args.disk.now x told).as_many in
     let live = c.args.live.now in
     let room : journal_end live ≤ length x = omega (arith, size, c.end.ensures, c.sectors-sectors.ensures) in
@@ -14,7 +14,7 @@ returns-in-Ok-clause-reads g c = λ x told.
 
 pub returns-in-Err-Place-clause-reads : goal.returns-in-Err-Place-clause-reads
 returns-in-Err-Place-clause-reads g c = λ x told.
-    let met = g.met.D.Disk g.world.𝓛 g.world.𝓜 g.world.𝓡 ((λ s held. held), (λ held. held), (λ held. held), λ held. held) in
+    let met = g.met.D.Disk in
     let size = (met.is_tale c.args.disk.now x told).as_many in
     let live = c.args.live.now in
     let k = c.in-Err-Place.k in
