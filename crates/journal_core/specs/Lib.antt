@@ -1,0 +1,10 @@
+pub mod Changes
+pub mod Parts
+pub mod Chapters
+pub mod Keeps
+pub mod Writes
+pub mod Seen
+pub mod Opening
+pub mod History
+pub mod Calls
+pub mod Book
