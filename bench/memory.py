@@ -26,3 +26,17 @@ def peak_of(words, folder=None, patience=600):
             child.kill()
         child.wait()
     return peak
+
+
+def held_by(words, patience=600):
+    """What a program holds once it said a line, and the most that it held until then, in resident KiB. It ends when its input does."""
+    child = subprocess.Popen(words, stdin=subprocess.PIPE, stdout=subprocess.PIPE, text=True)
+    try:
+        said = child.stdout.readline()
+        lines = Path(f"/proc/{child.pid}/status").read_text().splitlines()
+        child.communicate(timeout=patience)
+    finally:
+        child.kill()
+        child.wait()
+    sizes = {line.split(":")[0]: int(line.split()[1]) for line in lines if line.startswith(("VmRSS:", "VmHWM:"))}
+    return (sizes["VmRSS"], sizes["VmHWM"]) if said and child.returncode == 0 else (0, 0)

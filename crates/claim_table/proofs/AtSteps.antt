@@ -9,7 +9,7 @@ use Rattle.key_state.specs.declared.seen.BookSeen.{BookSeen}
 use Rattle.claim_table.specs.Codes.{code_of, IsCoded, HasKeys}
 use Rattle.claim_table.specs.Lanes.{lane, word_of, shifted}
 use Rattle.claim_table.specs.Sums.{Each}
-use Rattle.claim_table.specs.Views.{blocks_of, bad, claimed, released, with_hand}
+use Rattle.claim_table.specs.Views.{blocks_of, LentAs, bad, claimed, released, with_hand}
 use Rattle.claim_table.specs.Passes.{IsPassFor}
 use Rattle.claim_table.specs.Plays.{Sat, fetches_pass, releases, puts_back, Claiming, claims}
 use Rattle.claim_table.specs.declared.view.Item.{Item}
@@ -60,10 +60,11 @@ module _ {P B : Type 0} (pass_seen : P → PassSeen) (book_seen : B → BookSeen
     pub pass : P
     pub seat : m' ≡ (with_hand (claimed m.0 b entry) (b + 1), (b, slot.Pass pass) ∷ m.1)
     pub ok : IsPassFor m.0.made b entry (pass_seen pass)
+    pub lent : LentAs m.0 b entry
 
   pub got : (b r : ℕ) (m m' : Sat P B) → Claiming pass_seen book_seen b r (lane r (b % 4)) m m' → lane r (b % 4) < 2 ^ 15 → lane r (b % 4) ≢ 256 → Got b r m m'
   got b r m m' h low ne = let t = h.1 low in let good : t.0 ≢ Bad = λ q. ne (t.2 ∙ ap code_of q) in let u = t.4 good in
-      record { entry = t.0; valid = t.1; code = t.2; good = good; pass = u.0; seat = u.1; ok = u.2 }
+      record { entry = t.0; valid = t.1; code = t.2; good = good; pass = u.0; seat = u.1; ok = u.2; lent = t.5 }
 
 abbrev carries : {P B : Type 0} → View → List (ℕ × Slot P B) → Sat P B
 carries w l = (w, l)

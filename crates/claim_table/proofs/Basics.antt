@@ -9,8 +9,9 @@ use Rattle.key_state.specs.declared.entry.Entry.{Entry}
 use Rattle.key_state.specs.declared.entry.Entry.TheVariants.{Settled, Pending, Bad}
 use Rattle.key_state.specs.declared.seen.BookSeen.{BookSeen}
 use Rattle.claim_table.specs.Codes.{code_of, IsCoded}
+use Rattle.claim_table.specs.Lanes.{lane}
 use Rattle.claim_table.specs.Sums.{total, Each}
-use Rattle.claim_table.specs.Views.{try, answer_of, is_busy, is_bad as bad_answer, at, refused, answered, found_bad, bad, IsFalling, brought}
+use Rattle.claim_table.specs.Views.{try, answer_of, is_busy, is_bad as bad_answer, at, busy_with, other_with, refused, answered, refused_as, answered_as, found_bad, bad, IsFalling, brought}
 use Rattle.claim_table.specs.Firsts.{flaw}
 use Rattle.claim_table.specs.declared.view.Item.{Item}
 use Rattle.claim_table.specs.declared.view.Answer.{Answer}
@@ -59,6 +60,31 @@ refused_no word b k = dite (ℕ_discrete b k) (λ e. ap (λ t. cond t 0 0) (eq-e
 
 pub refused_else : (word k b : ℕ) → k ≢ b → refused k (try b (answer.Busy word)) ≡ 0
 refused_else word k b ne = ap (λ t. cond t 1 0) (ne_eqb b k (λ e. ne (sym e)))
+
+pub as_no : (word b k code : ℕ) → answered_as k code (try b (answer.Busy word)) ≡ 0
+as_no word b k code = dite (ℕ_discrete b k) (λ e. ap (λ t. cond t 0 0) (eq-eqb b k e)) (λ ne. ap (λ t. cond t 0 0) (ne_eqb b k ne))
+
+pub refused_as_else : (word k b code : ℕ) → k ≢ b → refused_as k code (try b (answer.Busy word)) ≡ 0
+refused_as_else word k b code ne = ap (λ t. cond t (busy_with k code (answer.Busy word)) 0) (ne_eqb b k (λ e. ne (sym e)))
+
+pub refused_as_other : (word b code : ℕ) → lane word (b % 4) ≢ code + 2 ^ 15 → refused_as b code (try b (answer.Busy word)) ≡ 0
+refused_as_other word b code ne = ap (λ t. cond t (busy_with b code (answer.Busy word)) 0) (eq-eqb b b refl) ∙ ap (λ t. cond t 1 0) (ne_eqb (lane word (b % 4)) (code + 2 ^ 15) ne)
+
+free_with : (k code : ℕ) (e : Entry) → busy_with k code (answer_of e) ≡ 0
+free_with k code (Settled x) = refl
+free_with k code (Pending x n) = refl
+free_with k code Bad = refl
+
+pub free_as : (k b code : ℕ) (e : Entry) → refused_as k code (try b (answer_of e)) ≡ 0
+free_as k b code e = ap (λ (x : ℕ). cond (eqb b k) x 0) (free_with k code e) ∙ dite (ℕ_discrete b k) (λ q. ap (λ t. cond t 0 0) (eq-eqb b k q)) (λ ne. ap (λ t. cond t 0 0) (ne_eqb b k ne))
+
+says_with : (e : Entry) → other_with (code_of e) (answer_of e) ≡ 1
+says_with (Settled k) = ap (λ t. cond t 1 0) (eq-eqb (code_of (Settled k)) (code_of (Settled k)) refl)
+says_with (Pending k n) = ap (λ t. cond t 1 0) (eq-eqb (code_of (Pending k n)) (code_of (Pending k n)) refl)
+says_with Bad = ap (λ t. cond t 1 0) (eq-eqb (code_of Bad) (code_of Bad) refl)
+
+pub said_yes : (b : ℕ) (e : Entry) → answered_as b (code_of e) (try b (answer_of e)) ≡ 1
+said_yes b e = ap (λ t. cond t (other_with (code_of e) (answer_of e)) 0) (eq-eqb b b refl) ∙ says_with e
 
 answer_free : (e : Entry) → is_busy (answer_of e) ≡ 0
 answer_free (Settled k) = refl

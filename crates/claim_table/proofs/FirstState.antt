@@ -1,5 +1,5 @@
 -- The table as it is made keeps the rule.
-use Rattle.std.proofs.Common.{◌≡◌, ℕ, zero, suc, ◌+◌, ◌/◌, ◌%◌, ◌^◌, ◌<◌, ◌≤◌, true, ◌≢◌, List, [], ◌∷◌, ◌++◌, map, length, get_or, set, sym, refl, ap, ◌∙◌, subst, arith, length-set, length-append, get_or-set_other, bit_or, Option, Some, None, slice_get, slice_index_or}
+use Rattle.std.proofs.Common.{◌≡◌, ℕ, zero, suc, ◌+◌, ◌/◌, ◌%◌, ◌^◌, ◌<◌, ◌≤◌, true, ◌≢◌, List, [], ◌∷◌, ◌++◌, map, length, get_or, set, sym, refl, ap, ◌∙◌, subst, inl, arith, length-set, length-append, get_or-set_other, bit_or, Option, Some, None, slice_get, slice_index_or}
 use Rattle.std.proofs.lemmas.List.{length-map}
 use mathlib.Core.Logic.{dite}
 use mathlib.Core.Bool.{false≢true}
@@ -69,11 +69,13 @@ module _ {P B : Type 0} (pass_seen : P → PassSeen) (book_seen : B → BookSeen
           outside = λ b far. refl;
           entries = is.valid;
           free = λ b near _. ((words.codes b near).0, coded b near);
-          each = λ j u e. only_first (FitsView made made.book ws) v j u e record { held = tt; falls = tt; few = omega arith; stands = tt; live = λ _. (refl, omega arith); dead = λ q. absurd (false≢true q) };
+          each = λ j u e. only_first (FitsView made made.book ws) v j u e record { held = tt; falls = tt; few = omega arith; stands = tt; said = tt; live = λ _. (refl, omega arith); dead = λ q. absurd (false≢true q) };
           met = λ b h. absurd (omega arith);
+          found = λ b code h. absurd (omega arith);
           alone = λ _ b. refl;
           whole = omega arith;
           sized = sized;
+          stays = λ b near h. absurd (omega arith);
         };
         counts = record {
           ends = omega arith;
@@ -81,7 +83,8 @@ module _ {P B : Type 0} (pass_seen : P → PassSeen) (book_seen : B → BookSeen
           spoilt = omega arith;
           bad_met = λ b h. absurd (omega arith);
           follows = follows_same made.book;
-          idle = λ j u e q. only_first (λ z. (z.wrote ≡ []) × (z.cleared ≡ []) × (z.spoilt ≡ [])) v j u e (refl, refl, refl);
+          given = inl refl;
+          idle = λ j u e q. only_first (λ z. (z.wrote ≡ []) × (z.cleared ≡ []) × (z.spoilt ≡ []) × (z.gave ≡ [])) v j u e (refl, refl, refl, refl);
           told_shut = λ j u e q. absurd (only_first (λ z. z.shut ≡ true → ⊥) v j u e (λ z. false≢true z) q);
         };
         slots = record {

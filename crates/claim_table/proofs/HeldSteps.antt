@@ -17,16 +17,16 @@ use Rattle.key_state.specs.declared.seen.BookSeen.{BookSeen}
 use Rattle.claim_table.specs.Codes.{code_of, IsCoded, HasKeys}
 use Rattle.claim_table.specs.Lanes.{lane, word_of, code_at, shifted}
 use Rattle.claim_table.specs.Sums.{total, Each}
-use Rattle.claim_table.specs.Views.{blocks_of, now_at, at, holds, other_at, bad, released, with_hand}
+use Rattle.claim_table.specs.Views.{blocks_of, parts_in, now_at, at, holds, other_at, other_as, bad_at, parts, bad, released, with_hand}
 use Rattle.claim_table.specs.Passes.{IsPassFor}
 use Rattle.claim_table.specs.Rule.{Agrees, Claims, PassHome, Parked}
-use Rattle.claim_table.specs.Plays.{Sat, looked, parks, fetches_pass, releases, puts_back}
+use Rattle.claim_table.specs.Plays.{Sat, ReadsAs, looked, parks, fetches_pass, releases, puts_back}
 use Rattle.claim_table.specs.declared.view.Item.{Item}
 use Rattle.claim_table.specs.declared.view.View.{View}
 use Rattle.claim_table.specs.declared.view.Made.{Made}
 use Rattle.claim_table.specs.declared.slot.Slot.{Slot}
 use Rattle.claim_table.specs.declared.slot.Slot.TheVariants as slot
-use Rattle.claim_table.proofs.Sums.{term_le, terms_le}
+use Rattle.claim_table.proofs.Sums.{total-set, term_le, terms_le}
 use Rattle.claim_table.proofs.LaneSteps.{lane_xor, op_here, op_there, xor_turn, xor_none}
 use Rattle.claim_table.proofs.Basics.{at_yes, at_no, each_map, each_apart, each_at, some_term, alive, code_small, tail_of, same_tail, same_head, falls_tail}
 use Rattle.claim_table.proofs.WordParts.{agrees_kept, moved, rested}
@@ -76,7 +76,7 @@ module _ {P B : Type 0} (pass_seen : P → PassSeen) (book_seen : B → BookSeen
         reloaded pass_seen book_seen made s.words (word_of b) hs (set s.views id w) record {
           book = o.book;
           claims = rested made o.book s.words s.views a id v w s.words me refl (λ c. refl) refl refl refl (a.each id v me);
-          counts = counts_kept made o.book s.views o.counts id v w me refl refl refl refl refl (λ _. inl refl);
+          counts = counts_kept made o.book s.views o.counts id v w me refl refl refl refl refl refl (λ _. inl refl);
           slots = slots_set pass_seen book_seen made o.book s.words s.words s.homes hs s.views k id w (length-set s.homes b none)
               (λ j h q. pass_else pass_seen book_seen made o.book s.homes j b none (λ z. absurd (omega (arith, subst (λ (y : ℕ). code_at s.words y < 2 ^ 15) z q))) (k.home j h q))
               (λ j u ne at-j. parked_apart pass_seen book_seen made o.book s.homes b u.hand u.hand none u.held (t.apart j u ne at-j) (λ _ _ h. h) (k.parked j u at-j))
@@ -105,7 +105,7 @@ module _ {P B : Type 0} (pass_seen : P → PassSeen) (book_seen : B → BookSeen
         reloaded pass_seen book_seen made s.words j hs (set s.views id w) record {
           book = o.book;
           claims = rested made o.book s.words s.views a id v w s.words me refl (λ c. refl) refl refl refl (a.each id v me);
-          counts = counts_kept made o.book s.views o.counts id v w me refl refl refl refl refl (λ _. inl refl);
+          counts = counts_kept made o.book s.views o.counts id v w me refl refl refl refl refl refl (λ _. inl refl);
           slots = slots_set pass_seen book_seen made o.book s.words s.words s.homes hs s.views k id w (length-set s.homes b (some slot.Empty))
               (λ j h q. pass_else pass_seen book_seen made o.book s.homes j b (some slot.Empty) (λ z. absurd (omega (arith, subst (λ (y : ℕ). code_at s.words y < 2 ^ 15) z q))) (k.home j h q))
               (λ j u ne at-j. parked_apart pass_seen book_seen made o.book s.homes b u.hand u.hand (some slot.Empty) u.held (t.apart j u ne at-j) (λ _ _ h. h) (k.parked j u at-j))
@@ -153,11 +153,13 @@ module _ {P B : Type 0} (pass_seen : P → PassSeen) (book_seen : B → BookSeen
                 falls = falls_tail i v.held others top was.falls;
                 few = omega (arith, was.few, ap length top);
                 stands = (tail_of (λ j. 0 < other_at j.block v) i v.held others top was.stands).1;
+                said = (tail_of (λ j. 0 < other_as j.block (code_of j.was) v) i v.held others top was.said).1;
                 live = was.live;
                 dead = λ q. absurd (false≢true (sym t.awake ∙ q));
               }
-              refl (λ j. refl) (λ j. omega arith);
-          counts = counts_kept made o.book s.views o.counts id v w me refl refl refl refl refl (λ _. inl refl);
+              refl (λ j. refl) (λ j. omega arith) (λ j _. refl) (λ some-bad. omega (arith, here, ap code_of (sym t.agrees.owned ∙ o.counts.bad_met b (omega (arith, some-bad, total-set (bad_at b) s.views id v w me)))))
+              (λ j code. refl) (λ j code. omega arith);
+          counts = counts_kept made o.book s.views o.counts id v w me refl refl refl refl refl refl (λ _. inl refl);
           slots = slots_set pass_seen book_seen made o.book s.words W s.homes hs s.views k id w (length-set s.homes b (some (slot.Pass p)))
               (λ j h q. dite (ℕ_discrete j b) (λ z. subst (PassHome pass_seen book_seen made o.book hs) (sym z) (p, set_here s.homes b (some (slot.Pass p)) (omega arith), ok'))
               (λ ne. pass_else pass_seen book_seen made o.book s.homes j b (some (slot.Pass p)) ne (k.home j h (subst (λ (y : ℕ). y < 2 ^ 15) (there j ne) q))))
@@ -201,11 +203,12 @@ module _ {P B : Type 0} (pass_seen : P → PassSeen) (book_seen : B → BookSeen
                 falls = falls_tail i v.held others top was.falls;
                 few = omega (arith, was.few, ap length top);
                 stands = (tail_of (λ j. 0 < other_at j.block v) i v.held others top was.stands).1;
+                said = (tail_of (λ j. 0 < other_as j.block (code_of j.was) v) i v.held others top was.said).1;
                 live = was.live;
                 dead = λ q. absurd (false≢true (sym t.awake ∙ q));
               }
-              refl (λ j. refl) (λ j. omega arith);
-          counts = counts_kept made o.book s.views o.counts id v w me refl refl refl refl refl (λ _. inl refl);
+              refl (λ j. refl) (λ j. omega arith) (λ j _. refl) (λ _. omega (arith, here)) (λ j code. refl) (λ j code. omega arith);
+          counts = counts_kept made o.book s.views o.counts id v w me refl refl refl refl refl refl (λ _. inl refl);
           slots = slots_set pass_seen book_seen made o.book s.words W s.homes s.homes s.views k id w refl
               (λ j h q. dite (ℕ_discrete j b) (λ z. subst (PassHome pass_seen book_seen made o.book s.homes) (sym z) (parked.0.0 bad)) (λ ne. k.home j h (subst (λ (y : ℕ). y < 2 ^ 15) (there j ne) q)))
               (λ j u ne at-j. k.parked j u at-j) parked.1;
@@ -223,7 +226,7 @@ module _ {P B : Type 0} (pass_seen : P → PassSeen) (book_seen : B → BookSeen
         reloaded pass_seen book_seen made s.words j s.homes (set s.views id v) record {
           book = o.book;
           claims = rested made o.book s.words s.views a id v v s.words me refl (λ c. refl) refl refl refl was;
-          counts = counts_kept made o.book s.views o.counts id v v me refl refl refl refl refl (λ _. inl refl);
+          counts = counts_kept made o.book s.views o.counts id v v me refl refl refl refl refl refl (λ _. inl refl);
           slots = slots_set pass_seen book_seen made o.book s.words s.words s.homes s.homes s.views o.slots id v refl o.slots.home (λ j u _. o.slots.parked j u) (o.slots.parked id v me);
           lock = lock_kept pass_seen book_seen made o.book s.words s.words s.homes s.homes s.views o.lock id v v me refl refl refl (λ h. h) refl;
         },
@@ -241,17 +244,29 @@ module _ {P B : Type 0} (pass_seen : P → PassSeen) (book_seen : B → BookSeen
                     let them = each_at (Agrees o.book s.words) b holder.1.held holder.3 theirs.held in
                     let small = code_small them.0.was them.2.coded in
                     let there : c ≡ code_of them.0.was + 2 ^ 15 = ap (code_at s.words) (sym them.1) ∙ them.2.word in
-                    (them.0.was, them.2.coded, omega arith))
+                    (them.0.was, (them.2.coded, omega arith)))
                     (λ unset.
                     let stood-free = a.free b near' (omega arith) in
                     let small = code_small (now_at o.book b) stood-free.1 in
-                    (now_at o.book b, stood-free.1, omega (arith, stood-free.0))),
-                each_map (Agrees o.book s.words) (λ i. i.block ≡ b → IsCoded i.was × (lane wd (b % 4) % 2 ^ 15 ≡ code_of i.was)) v.held
+                    (now_at o.book b, (stood-free.1, omega (arith, stood-free.0)))),
+                each_map (Agrees o.book s.words) (λ i. i.block ≡ b → ReadsAs wd b i.was) v.held
                     (λ i agrees at-b.
                     let small = code_small i.was agrees.coded in
                     let there : c ≡ code_of i.was + 2 ^ 15 = ap (code_at s.words) (sym at-b) ∙ agrees.word in
                     (agrees.coded, omega arith))
                     was.held,
+                (λ met. ((tt, tt), omega (arith, seen, a.stays b near' (omega (arith, met, term_le (bad_at b) s.views id v me))))),
+                λ all none-held f has.
+                    let low : c < 2 ^ 15 = dite (dec_le (2 ^ 15) c)
+                    (λ taken.
+                    let holder = some_term (holds b) s.views (omega (arith, a.busy b near')) in
+                    let theirs = a.each holder.0 holder.1 holder.2 in
+                    let another : holder.0 ≢ id = λ e. let same : holder.1 ≡ v = some-injective holder.1 v (sym holder.2 ∙ (ap (λ (j : ℕ). get_elem? s.views j) e ∙ me)) in absurd (omega (arith, holder.3, ap (holds b) same, none-held)) in
+                    absurd (omega (arith, terms_le parts s.views id holder.0 v holder.1 another me holder.2, a.whole, all, ap parts_in known, (theirs.live (alive holder.1.spent (λ q. absurd (omega (arith, holder.3, ap (total (at b)) (theirs.dead q).0))))).1)))
+                    (λ unset. omega arith) in
+                    let stood-free = a.free b near' low in
+                    let book-is : f ≡ o.book = (o.lock.loan id v f me has).0 in
+                    subst (λ (z : BookSeen). ReadsAs wd b (now_at z b)) (sym book-is) (stood-free.1, omega (arith, seen, low, stood-free.0)),
               ),
         ),
       )

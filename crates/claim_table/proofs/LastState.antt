@@ -1,5 +1,5 @@
 -- What the rule says where one seat has every part and holds nothing.
-use Rattle.std.proofs.Common.{◌≡◌, ℕ, zero, suc, ◌+◌, ◌%◌, ◌^◌, ◌<◌, Bool, true, false, cond, ◌≢◌, List, [], ◌∷◌, ◌++◌, map, length, sym, refl, ap, ◌∙◌, subst, arith, length-append, Option, Some, None, slice_get, IsSome}
+use Rattle.std.proofs.Common.{◌≡◌, ℕ, zero, suc, ◌+◌, ◌%◌, ◌^◌, ◌<◌, Bool, true, false, cond, ◌≢◌, List, [], ◌∷◌, ◌++◌, map, length, sym, refl, ap, ◌∙◌, subst, ⊎_elim, arith, length-append, Option, Some, None, slice_get, IsSome}
 use Rattle.std.proofs.lemmas.List.{length-map}
 use mathlib.Core.Bool.{false≢true}
 use mathlib.Core.Option as maybe
@@ -11,8 +11,8 @@ use Rattle.key_state.specs.Books.{Follows}
 use Rattle.key_state.specs.declared.entry.Entry.TheVariants.{Bad}
 use Rattle.key_state.specs.declared.seen.BookSeen.{BookSeen}
 use Rattle.claim_table.specs.Lanes.{code_at}
-use Rattle.claim_table.specs.Sums.{total, Each}
-use Rattle.claim_table.specs.Views.{blocks_of, parts_in, now_at, at, holds, refused, answered, found_bad, busy_at, other_at, bad_at, parts, bad, lent, has_loan, joined}
+use Rattle.claim_table.specs.Sums.{total, Each, Among}
+use Rattle.claim_table.specs.Views.{blocks_of, parts_in, now_at, at, holds, refused, answered, refused_as, answered_as, found_bad, busy_at, other_at, busy_as, other_as, bad_at, parts, bad, lent, has_loan, gave_by, joined}
 use Rattle.claim_table.specs.Passes.{IsPassFor}
 use Rattle.claim_table.specs.Rule.{PassHome}
 use Rattle.claim_table.specs.declared.view.Try.{Try}
@@ -23,6 +23,7 @@ use Rattle.claim_table.specs.declared.slot.Slot.{Slot}
 use Rattle.claim_table.specs.declared.slot.Slot.TheVariants as slot
 use Rattle.claim_table.proofs.Sums.{total-append, terms_le}
 use Rattle.claim_table.proofs.Basics.{each_map, some_same}
+use Rattle.claim_table.proofs.GaveBack.{among_left, among_right, among_either, among_more, gave_alone}
 use Rattle.claim_table.proofs.Steps.{K}
 use Rattle.claim_table.specs.Seats.{view_of}
 use Rattle.claim_table.specs.declared.table.ClaimSeat.{ClaimSeat}
@@ -64,11 +65,13 @@ map_at f (z ∷ xs) (suc i) x y at is = map_at f xs i x y at is
 -- what the book has to do with the views of a seat that has every part
 pub record Tallied (made : Made) (v : View) (book : BookSeen) : Type 0 where
   pub follows : Follows made.book book
+  pub given : Among book (made.book ∷ v.gave)
   pub ends : book.ends ≡ (made.book.ends + length v.wrote) % 2 ^ 64
   pub clears : book.clears ≡ (made.book.clears + length v.cleared) % 2 ^ 64
   pub spoilt : total bad book.now ≡ total bad made.book.now + length v.spoilt
   pub shut : v.shut ≡ true → book.shut ≡ true
   pub met : (b : ℕ) → 0 < busy_at b v → 0 < other_at b v
+  pub found : (b code : ℕ) → 0 < busy_as b code v → 0 < other_as b code v
   pub met_bad : (b : ℕ) → 0 < bad_at b v → now_at book b ≡ Bad
 
 module _ {P B : Type 0} (pass_seen : P → PassSeen) (book_seen : B → BookSeen) (made : Made) where
@@ -94,11 +97,13 @@ module _ {P B : Type 0} (pass_seen : P → PassSeen) (book_seen : B → BookSeen
         home = o.lock.home (omega (arith, o.lock.bit, none-lent));
         tallied = record {
           follows = o.counts.follows;
+          given = among_more o.book made.book (gave_by s.views) v.gave (gave_alone o.book made o.book s.words s.views a o.counts id v me all-parts) o.counts.given;
           ends = o.counts.ends ∙ ap (λ (n : ℕ). (made.book.ends + n) % 2 ^ 64) (zero_else (λ u. length u.wrote) s.views id v me (λ j u ne at-j. ap length (gone j u ne at-j).0));
           clears = o.counts.clears ∙ ap (λ (n : ℕ). (made.book.clears + n) % 2 ^ 64) (zero_else (λ u. length u.cleared) s.views id v me (λ j u ne at-j. ap length (gone j u ne at-j).1));
           spoilt = o.counts.spoilt ∙ ap (λ (n : ℕ). total bad made.book.now + n) (zero_else (λ u. length u.spoilt) s.views id v me (λ j u ne at-j. ap length (gone j u ne at-j).2));
           shut = o.counts.told_shut id v me;
           met = λ b some-busy. omega (arith, only (refused b), only (answered b), a.met b);
+          found = λ b code h. omega (arith, h, only (refused_as b code), only (answered_as b code), a.found b code);
           met_bad = λ b some-bad. o.counts.bad_met b (omega (arith, only (found_bad b)));
         };
       }
@@ -142,11 +147,13 @@ module _ {P B : Type 0} (pass_seen : P → PassSeen) (book_seen : B → BookSeen
             let F : BookSeen × PassSeen → Type 0 = λ z. IsPassFor made b (now_at z.0 b) z.1 in
             subst F (λ i. (is i, same-seen i)) p.2;
         follows = tallied.follows;
+        given = among_more (book_seen x) made.book v.gave (gave_by (v ∷ [])) (among_left (book_seen x) v.gave []) tallied.given;
         ends = tallied.ends ∙ ap (λ (m : ℕ). (made.book.ends + m) % 2 ^ 64) (omega arith);
         clears = tallied.clears ∙ ap (λ (m : ℕ). (made.book.clears + m) % 2 ^ 64) (omega arith);
         spoilt = omega (arith, tallied.spoilt);
         shut = (tallied.shut, tt);
         met = λ b some-busy. omega (arith, tallied.met b (omega arith));
+        found = λ b code h. omega (arith, h, tallied.found b code (omega arith));
         met_bad = λ b some-bad. tallied.met_bad b (omega arith);
       }
 
@@ -170,11 +177,12 @@ all_back seats (s ∷ front) back is h = absurd (omega arith)
 pub gathered_more : (views : List View) (all other : View) → Gathered views all → Gathered (other ∷ views) (joined all other)
 gathered_more views all other g = record {
   sums = λ f adds. omega (arith, adds all other, g.sums f adds);
+  gave = λ book h. ⊎_elim (λ (l : Among book other.gave). among_left book other.gave (gave_by views) l) (λ (r : Among book all.gave). among_right book other.gave (gave_by views) (g.gave book r)) (among_either book other.gave all.gave h);
   shut = (cond_right all.shut other.shut, each_map (λ (v : View). v.shut ≡ true → all.shut ≡ true) (λ (v : View). v.shut ≡ true → cond all.shut true other.shut ≡ true) views (λ v h q. cond_left all.shut other.shut (h q)) g.shut);
 }
 
 pub gathered_one : (v : View) → Gathered (v ∷ []) v
-gathered_one v = record { sums = λ f adds. omega arith; shut = ((λ h. h), tt) }
+gathered_one v = record { sums = λ f adds. omega arith; shut = ((λ h. h), tt); gave = λ book h. among_left book v.gave [] h }
 
 each_shut : (views : List View) (all : View) (P : Type 0) → Each (λ (v : View). v.shut ≡ true → all.shut ≡ true) views → (all.shut ≡ true → P) → Each (λ (v : View). v.shut ≡ true → P) views
 each_shut [] all P h k = tt
@@ -185,11 +193,14 @@ returned_all made views all passes book g r = record {
   many = r.many;
   each = r.each;
   follows = r.follows;
+  given = among_more book made.book (gave_by (all ∷ [])) (gave_by views)
+      (λ h. ⊎_elim (λ (l : Among book all.gave). g.gave book l) (λ (none-left : Among book []). absurd none-left) (among_either book all.gave [] h)) r.given;
   ends = r.ends ∙ ap (λ (m : ℕ). (made.book.ends + m) % 2 ^ 64) (omega (arith, g.sums (λ u. length u.wrote) (λ v w. length-append w.wrote v.wrote ∙ omega arith)));
   clears = r.clears ∙ ap (λ (m : ℕ). (made.book.clears + m) % 2 ^ 64) (omega (arith, g.sums (λ u. length u.cleared) (λ v w. length-append w.cleared v.cleared ∙ omega arith)));
   spoilt = omega (arith, r.spoilt, g.sums (λ u. length u.spoilt) (λ v w. length-append w.spoilt v.spoilt ∙ omega arith));
   shut = each_shut views all (book.shut ≡ true) g.shut r.shut.0;
   met = λ b some-busy. omega (arith, r.met b (omega (arith, g.sums (busy_at b) (λ v w. total-append (refused b) w.mine v.mine ∙ omega arith))), g.sums (other_at b) (λ v w. total-append (answered b) w.mine v.mine ∙ omega arith));
+  found = λ b code h. omega (arith, r.found b code (omega (arith, h, g.sums (busy_as b code) (λ v w. total-append (refused_as b code) w.mine v.mine ∙ omega arith))), g.sums (other_as b code) (λ v w. total-append (answered_as b code) w.mine v.mine ∙ omega arith));
   met_bad = λ b some-bad. r.met_bad b (omega (arith, g.sums (bad_at b) (λ v w. total-append (found_bad b) w.mine v.mine ∙ omega arith)));
 }
 

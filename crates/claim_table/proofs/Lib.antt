@@ -2,6 +2,7 @@ pub mod Sums
 pub mod LaneSteps
 pub mod Basics
 pub mod WordParts
+pub mod GaveBack
 pub mod SlotParts
 pub mod Steps
 pub mod HeldSteps
@@ -10,6 +11,7 @@ pub mod BadCount
 pub mod LockSteps
 pub mod RunSteps
 pub mod TestParts
+pub mod TestWrites
 pub mod SeatSteps
 pub mod LastState
 pub mod Taking

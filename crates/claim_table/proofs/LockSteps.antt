@@ -17,8 +17,8 @@ use Rattle.key_state.specs.declared.entry.Entry.TheVariants.{Settled, Pending, B
 use Rattle.key_state.specs.declared.seen.BookSeen.{BookSeen}
 use Rattle.claim_table.specs.Codes.{code_of, IsCoded}
 use Rattle.claim_table.specs.Lanes.{lane, word_of, code_at}
-use Rattle.claim_table.specs.Sums.{total, Each}
-use Rattle.claim_table.specs.Views.{blocks_of, now_at, synced_at, at, holds, busy_at, other_at, bad_at, parts, lent, has_loan, with_hand, is_safe, has_ended, has_cleared, has_spoilt, those, brought, given}
+use Rattle.claim_table.specs.Sums.{total, Each, Among}
+use Rattle.claim_table.specs.Views.{blocks_of, parts_in, now_at, synced_at, at, holds, busy_at, other_at, busy_as, other_as, bad_at, parts, lent, has_loan, gave_by, with_hand, is_safe, has_ended, has_cleared, has_spoilt, those, brought, given}
 use Rattle.claim_table.specs.Passes.{IsPassFor}
 use Rattle.claim_table.specs.Books.{Lends, MayGive}
 use Rattle.claim_table.specs.Rule.{Agrees, FitsView, Claims, PassHome, Parked, ShelfHome, Lock}
@@ -33,6 +33,7 @@ use Rattle.claim_table.proofs.Sums.{total-set, term_le, terms_le}
 use Rattle.claim_table.proofs.Basics.{each_map, each_in, some_same, falls_brought}
 use Rattle.claim_table.proofs.WordParts.{agrees_kept, rested}
 use Rattle.claim_table.proofs.Steps.{K, reloaded}
+use Rattle.claim_table.proofs.GaveBack.{among_more, gave_new, gave_alone}
 use Rattle.claim_table.proofs.BadCount.{bad_after, bad_place}
 use Rattle.claim_table.proofs.SlotParts.{counts_kept, pass_else, parked_else, slots_set, lock_kept}
 
@@ -59,7 +60,7 @@ each_brought : (g f : BookSeen) (words : List ℕ) (xs : List Item) → Each (Ag
 each_brought g f words [] h = tt
 each_brought g f words (i ∷ xs) h = (record { word = h.0.word; owned = refl; coded = h.0.coded; safe = pending_safe (now_at f i.block) (synced_at f i.block) }, each_brought g f words xs h.1)
 
-each_stands : (f : BookSeen) (P : ℕ → Type 0) (xs : List Item) → Each (λ i. P i.block) xs → Each (λ i. P i.block) (map (brought f) xs)
+each_stands : (f : BookSeen) (P : ℕ → ℕ → Type 0) (xs : List Item) → Each (λ i. P i.block (code_of i.was)) xs → Each (λ i. P i.block (code_of i.was)) (map (brought f) xs)
 each_stands f P [] h = tt
 each_stands f P (i ∷ xs) h = (h.0, each_stands f P xs h.1)
 
@@ -141,6 +142,8 @@ module _ {P B : Type 0} (pass_seen : P → PassSeen) (book_seen : B → BookSeen
         follows = subst F (sym known) o.counts.follows;
         shut = o.counts.told_shut id v me;
         bad = λ b some-bad. o.counts.bad_met b (omega (arith, term_le (bad_at b) s.views id v me));
+        alone = λ all. subst (λ (z : Made). Among o.book (z.book ∷ v.gave)) (sym known)
+            (among_more o.book made.book (gave_by s.views) v.gave (gave_alone o.book made o.book s.words s.views a o.counts id v me (all ∙ ap parts_in known)) o.counts.given);
       } in
       let w : View = lending v (book_seen x) in let hs : List (maybe.Option (Slot P B)) = set s.homes (blocks_of made) none in
       let W : List ℕ = set s.words 0 y in
@@ -152,7 +155,7 @@ module _ {P B : Type 0} (pass_seen : P → PassSeen) (book_seen : B → BookSeen
         record {
           book = o.book;
           claims = rested made o.book s.words s.views a id v w W me (length-set s.words 0 y) (codes_apart s.words y) refl refl refl was;
-          counts = counts_kept made o.book s.views o.counts id v w me refl refl refl refl refl (λ _. inl refl);
+          counts = counts_kept made o.book s.views o.counts id v w me refl refl refl refl refl refl (λ _. inl refl);
           slots = slots_set pass_seen book_seen made o.book s.words W s.homes hs s.views k id w (length-set s.homes (blocks_of made) none)
               (λ j h q. pass_else pass_seen book_seen made o.book s.homes j (blocks_of made) none (λ e. omega arith) (k.home j h (subst (λ (z : ℕ). z < 2 ^ 15) (codes_apart s.words y j) q)))
               (λ j u _ at-j. parked_far o.book s.words s.homes s.views a j u.hand u.hand u none at-j (inl refl) (k.parked j u at-j))
@@ -179,7 +182,7 @@ module _ {P B : Type 0} (pass_seen : P → PassSeen) (book_seen : B → BookSeen
         reloaded pass_seen book_seen made s.words 0 s.homes (set s.views id v) record {
           book = o.book;
           claims = rested made o.book s.words s.views a id v v s.words me refl (λ c. refl) refl refl refl was;
-          counts = counts_kept made o.book s.views o.counts id v v me refl refl refl refl refl (λ _. inl refl);
+          counts = counts_kept made o.book s.views o.counts id v v me refl refl refl refl refl refl (λ _. inl refl);
           slots = slots_set pass_seen book_seen made o.book s.words s.words s.homes s.homes s.views k id v refl k.home (λ j u _. k.parked j u) (k.parked id v me);
           lock = lock_kept pass_seen book_seen made o.book s.words s.words s.homes s.homes s.views l id v v me refl refl refl (λ h. h) refl;
         },
@@ -200,7 +203,7 @@ module _ {P B : Type 0} (pass_seen : P → PassSeen) (book_seen : B → BookSeen
         reloaded pass_seen book_seen made s.words j hs (set s.views id w) record {
           book = o.book;
           claims = rested made o.book s.words s.views a id v w s.words me refl (λ c. refl) refl refl refl was;
-          counts = counts_kept made o.book s.views o.counts id v w me refl refl refl refl refl (λ _. inl refl);
+          counts = counts_kept made o.book s.views o.counts id v w me refl refl refl refl refl refl (λ _. inl refl);
           slots = slots_set pass_seen book_seen made o.book s.words s.words s.homes hs s.views k id w (length-set s.homes (blocks_of made) none)
               (λ j h q. pass_else pass_seen book_seen made o.book s.homes j (blocks_of made) none (λ e. omega arith) (k.home j h q))
               (λ j u _ at-j. parked_far o.book s.words s.homes s.views a j u.hand u.hand u none at-j (inl refl) (k.parked j u at-j))
@@ -226,7 +229,7 @@ module _ {P B : Type 0} (pass_seen : P → PassSeen) (book_seen : B → BookSeen
         reloaded pass_seen book_seen made s.words j hs (set s.views id w) record {
           book = o.book;
           claims = rested made o.book s.words s.views a id v w s.words me refl (λ c. refl) refl refl refl was;
-          counts = counts_kept made o.book s.views o.counts id v w me refl refl refl refl refl (λ _. inl refl);
+          counts = counts_kept made o.book s.views o.counts id v w me refl refl refl refl refl refl (λ _. inl refl);
           slots = slots_set pass_seen book_seen made o.book s.words s.words s.homes hs s.views k id w (length-set s.homes (blocks_of made) e)
               (λ j h q. pass_else pass_seen book_seen made o.book s.homes j (blocks_of made) e (λ z. omega arith) (k.home j h q))
               (λ j u _ at-j. parked_far o.book s.words s.homes s.views a j u.hand u.hand u e at-j (inl refl) (k.parked j u at-j))
@@ -254,6 +257,7 @@ module _ {P B : Type 0} (pass_seen : P → PassSeen) (book_seen : B → BookSeen
         falls = theirs.falls;
         few = theirs.few;
         stands = theirs.stands;
+        said = theirs.said;
         live = theirs.live;
         dead = theirs.dead;
       } in
@@ -267,15 +271,18 @@ module _ {P B : Type 0} (pass_seen : P → PassSeen) (book_seen : B → BookSeen
           held = each_map (Agrees f words) (Agrees f ws) w.held (λ i q. agrees_kept f words ws i (same i.block) q) (each_brought g f words v.held was.held);
           falls = falls_brought f v.held was.falls;
           few = omega (arith, was.few, length-map v.held (brought f));
-          stands = each_stands f (λ b. 0 < other_at b v) v.held was.stands;
+          stands = each_stands f (λ b _. 0 < other_at b v) v.held was.stands;
+          said = each_stands f (λ b code. 0 < other_as b code v) v.held was.said;
           live = was.live;
           dead = λ q. absurd (false≢true (sym live ∙ q));
         })
             (λ t. other j u t.0 t.1) (at_set views id j w u e);
         met = λ c h. omega (arith, total-set (busy_at c) views id v w me, total-set (other_at c) views id v w me, a.met c);
+        found = λ c code h. omega (arith, h, total-set (busy_as c code) views id v w me, total-set (other_as c code) views id v w me, a.found c code);
         alone = λ one c. omega (arith, total-set (busy_at c) views id v w me, a.alone (sym (length-set views id w) ∙ one) c);
         whole = omega (arith, total-set parts views id v w me, a.whole);
         sized = may.follows.sized ∙ a.sized;
+        stays = λ c h some-bad. ap (λ (x : ℕ). x % 2 ^ 15) (same c) ∙ a.stays c h (omega (arith, some-bad, total-set (bad_at c) views id v w me));
       }
 
   each_parked_brought : (g f : BookSeen) (homes : List (maybe.Option (Slot P B))) (h : maybe.Option (Slot P B)) (hand : ℕ) (xs : List Item) → hand ≡ (blocks_of made) + 1
@@ -329,6 +336,7 @@ module _ {P B : Type 0} (pass_seen : P → PassSeen) (book_seen : B → BookSeen
             );
             bad_met = λ b some-bad. may'.stays b (o.counts.bad_met b (omega (arith, total-set (bad_at b) s.views id v w me)));
             follows = follows_then made.book o.book f o.counts.follows may'.follows;
+            given = inr (gave_new f s.views id v w me (inl refl));
             idle = λ j u at-j q. ⊎_elim (λ (t : (j ≡ id) × (w ≡ u)). absurd (false≢true (sym live ∙ (ap (λ (z : View). z.spent) t.1 ∙ q)))) (λ t. o.counts.idle j u t.1 q) (at_set s.views id j w u at-j);
             told_shut = λ j u at-j q. ⊎_elim (λ t. shut_cases v.shut f.shut (f.shut ≡ true) (λ z. may'.follows.shut (o.counts.told_shut id v me z)) (λ z. z) (ap (λ (z : View). z.shut) t.1 ∙ q))
                 (λ t. may'.follows.shut (o.counts.told_shut j u t.1 q)) (at_set s.views id j w u at-j);

@@ -1,11 +1,12 @@
 -- Runs of blocks, one more or one less.
 use Rattle.std.proofs.Common.{false, ◌≡◌, ℕ, ◌+◌, ◌<◌, List, [], ◌∷◌, ◌++◌, length, refl, ap, sym, subst, ◌∙◌, arith}
 use Rattle.vd_arm.specs.Arm.{PassSeen}
+use Rattle.key_state.specs.Entries.{entry_at}
 use Rattle.key_state.specs.declared.entry.Entry.{Entry}
 use Rattle.claim_table.specs.Sums.{Each}
-use Rattle.claim_table.specs.Views.{claimed, item, parts_in}
+use Rattle.claim_table.specs.Views.{LentAs, claimed, item, parts_in}
 use Rattle.claim_table.specs.Passes.{IsPassFor}
-use Rattle.claim_table.specs.Runs.{claimed_all, AreNewest, ArePassesFor}
+use Rattle.claim_table.specs.Runs.{claimed_all, AreNewest, ArePassesFor, AreLentAs}
 use Rattle.claim_table.specs.declared.view.Item.{Item}
 use Rattle.claim_table.specs.declared.view.View.{View}
 use Rattle.claim_table.specs.declared.view.Made.{Made}
@@ -30,6 +31,10 @@ pub all_parts : (v : View) (f : ℕ) (es : List Entry) → (claimed_all v f es).
 all_parts v f [] = refl
 all_parts v f (x ∷ es) = all_parts (claimed v f x) (f + 1) es
 
+pub all_loan : (v : View) (f : ℕ) (es : List Entry) → (claimed_all v f es).loan ≡ v.loan
+all_loan v f [] = refl
+all_loan v f (x ∷ es) = all_loan (claimed v f x) (f + 1) es
+
 pub all_few : (v : View) (f : ℕ) (es : List Entry) → length (claimed_all v f es).held ≡ length es + length v.held
 all_few v f [] = omega arith
 all_few v f (x ∷ es) = omega (arith, all_few (claimed v f x) (f + 1) es)
@@ -43,6 +48,14 @@ all_above v f (x ∷ es) h =
 pub all_newest : (v : View) (f : ℕ) (es : List Entry) → AreNewest f es (claimed_all v f es).held v.held
 all_newest v f [] = refl
 all_newest v f (x ∷ es) = (item f x x false, refl, refl, all_newest (claimed v f x) (f + 1) es)
+
+pub lent_more : (v : View) (f : ℕ) (es : List Entry) (e : Entry) → AreLentAs v f es → LentAs v (f + length es) e → AreLentAs v f (es ++ e ∷ [])
+lent_more v f [] e h of = (subst (λ (n : ℕ). LentAs v n e) (omega arith) of, tt)
+lent_more v f (x ∷ es) e h of = (h.0, lent_more v (f + 1) es e h.1 (subst (λ (n : ℕ). LentAs v n e) (omega arith) of))
+
+-- what a seat that claimed a run finds in the book it found there before
+pub still_lent : (v w : View) (f a b : ℕ) (es : List Entry) (e : Entry) → w ≡ claimed_all v f es → a ≡ b → LentAs w a e → LentAs v b e
+still_lent v w f a b es e is at h = λ book has. subst (λ (n : ℕ). entry_at book.now n ≡ e) at (h book ((ap (λ (u : View). u.loan) is ∙ all_loan v f es) ∙ has))
 
 -- the last block of a run is the newest
 pub newest_last : (f : ℕ) (es : List Entry) (e : Entry) (held others : List Item) → AreNewest f (es ++ e ∷ []) held others

@@ -7,13 +7,15 @@ use Rattle.atomic_table.specs.Table.{Splits, Joins}
 use Rattle.atomic_table.proofs.Lists.{at_set, set_else, at_snoc}
 use Rattle.vd_arm.specs.Arm.{PassSeen}
 use Rattle.key_state.specs.declared.seen.BookSeen.{BookSeen}
+use Rattle.claim_table.specs.Codes.{code_of}
 use Rattle.claim_table.specs.Sums.{total, Each}
-use Rattle.claim_table.specs.Views.{blocks_of, at, holds, refused, answered, found_bad, busy_at, other_at, bad_at, parts, lent, has_loan, fresh, less, joined, done}
+use Rattle.claim_table.specs.Views.{blocks_of, at, holds, refused, answered, refused_as, answered_as, found_bad, busy_at, other_at, busy_as, other_as, bad_at, parts, lent, has_loan, gave_by, fresh, less, joined, done}
 use Rattle.claim_table.specs.Rule.{FitsView, Parked, ShelfHome}
 use Rattle.claim_table.specs.declared.view.View.{View}
 use Rattle.claim_table.specs.declared.view.Made.{Made}
 use Rattle.claim_table.proofs.Sums.{total-append, total-set}
 use Rattle.claim_table.proofs.Basics.{each_map, length-snoc, two_long, there_long}
+use Rattle.claim_table.proofs.GaveBack.{among_left, among_right, among_more, gave_set, gave_snoc, gave_joined}
 use Rattle.claim_table.proofs.Steps.{K}
 
 shut_cases : (a b : Bool) (P : Type 0) → (a ≡ true → P) → (b ≡ true → P) → cond a true b ≡ true → P
@@ -37,14 +39,16 @@ module _ {P B : Type 0} (pass_seen : P → PassSeen) (book_seen : B → BookSeen
           entries = a.entries;
           free = a.free;
           each = λ j u e. ⊎_elim (λ (q : get_elem? vs j ≡ some u). ⊎_elim
-              (λ t. subst (FitsView made o.book s.words) t.1 record { held = was.held; falls = was.falls; few = was.few; stands = was.stands; live = λ z. ((was.live live).0, omega arith); dead = λ z. absurd (false≢true (sym live ∙ z)) })
+              (λ t. subst (FitsView made o.book s.words) t.1 record { held = was.held; falls = was.falls; few = was.few; stands = was.stands; said = was.said; live = λ z. ((was.live live).0, omega arith); dead = λ z. absurd (false≢true (sym live ∙ z)) })
               (λ t. a.each j u t.1) (at_set s.views id j l u q))
-              (λ (q : r ≡ u). subst (FitsView made o.book s.words) q record { held = tt; falls = tt; few = omega arith; stands = tt; live = λ z. ((was.live live).0, omega arith); dead = λ z. absurd (false≢true z) })
+              (λ (q : r ≡ u). subst (FitsView made o.book s.words) q record { held = tt; falls = tt; few = omega arith; stands = tt; said = tt; live = λ z. ((was.live live).0, omega arith); dead = λ z. absurd (false≢true z) })
               (at_snoc vs r u j e);
           met = λ c h. omega (arith, both (busy_at c), both (other_at c), a.met c);
+          found = λ c code h. omega (arith, h, both (busy_as c code), both (other_as c code), a.found c code);
           alone = λ one c. absurd (omega (arith, there_long s.views id v me, length-snoc vs r, length-set s.views id l));
           whole = omega (arith, both parts, a.whole);
           sized = a.sized;
+          stays = λ c h some-bad. a.stays c h (omega (arith, some-bad, both (bad_at c)));
         };
         counts = record {
           ends = o.counts.ends ∙ ap (λ (n : ℕ). (made.book.ends + n) % 2 ^ 64) (omega (arith, both (λ u. length u.wrote)));
@@ -52,6 +56,7 @@ module _ {P B : Type 0} (pass_seen : P → PassSeen) (book_seen : B → BookSeen
           spoilt = omega (arith, o.counts.spoilt, both (λ u. length u.spoilt));
           bad_met = λ b h. o.counts.bad_met b (omega (arith, both (bad_at b)));
           follows = o.counts.follows;
+          given = among_more o.book made.book (gave_by s.views) (gave_by (vs ++ r ∷ [])) (λ h. gave_snoc o.book vs r (gave_set o.book s.views id v l me (λ q. q) h)) o.counts.given;
           idle = λ j u e q. ⊎_elim (λ (z : get_elem? vs j ≡ some u). ⊎_elim (λ (t : (j ≡ id) × (l ≡ u)). absurd (false≢true (sym live ∙ (ap (λ (c : View). c.spent) t.1 ∙ q)))) (λ t. o.counts.idle j u t.1 q) (at_set s.views id j l u z))
               (λ (z : r ≡ u). absurd (false≢true (ap (λ (c : View). c.spent) z ∙ q))) (at_snoc vs r u j e);
           told_shut = λ j u e q. ⊎_elim (λ (z : get_elem? vs j ≡ some u). ⊎_elim (λ t. o.counts.told_shut id v me (ap (λ (c : View). c.shut) t.1 ∙ q)) (λ t. o.counts.told_shut j u t.1 q) (at_set s.views id j l u z))
@@ -93,20 +98,23 @@ module _ {P B : Type 0} (pass_seen : P → PassSeen) (book_seen : B → BookSeen
           outside = λ c h. omega (arith, both (holds c), a.outside c h, nothing c);
           entries = a.entries;
           free = a.free;
-          each = cases (FitsView made o.book s.words) record { held = tt; falls = tt; few = omega arith; stands = tt; live = λ q. absurd (false≢true (sym q)); dead = λ _. (refl, refl, refl) }
+          each = cases (FitsView made o.book s.words) record { held = tt; falls = tt; few = omega arith; stands = tt; said = tt; live = λ q. absurd (false≢true (sym q)); dead = λ _. (refl, refl, refl) }
               record {
                 held = was.held;
                 falls = was.falls;
                 few = was.few;
                 stands = each_map (λ i. 0 < other_at i.block v) (λ i. 0 < other_at i.block w) v.held (λ i h. omega (arith, total-append (answered i.block) u.mine v.mine)) was.stands;
+                said = each_map (λ i. 0 < other_as i.block (code_of i.was) v) (λ i. 0 < other_as i.block (code_of i.was) w) v.held (λ i h. omega (arith, total-append (answered_as i.block (code_of i.was)) u.mine v.mine)) was.said;
                 live = λ q. ((was.live live).0, omega (arith, (was.live live).1));
                 dead = λ q. absurd (false≢true (sym live ∙ q));
               }
               a.each;
           met = λ c h. omega (arith, both (busy_at c), both (other_at c), a.met c, total-append (refused c) u.mine v.mine, total-append (answered c) u.mine v.mine);
+          found = λ c code h. omega (arith, h, both (busy_as c code), both (other_as c code), a.found c code, total-append (refused_as c code) u.mine v.mine, total-append (answered_as c code) u.mine v.mine);
           alone = λ one c. absurd (omega (arith, two_long s.views id other v u ne me there, length-set vs other done, length-set s.views id w));
           whole = omega (arith, both parts, a.whole);
           sized = a.sized;
+          stays = λ c h some-bad. a.stays c h (omega (arith, some-bad, both (bad_at c), total-append (found_bad c) u.mine v.mine));
         };
         counts = record {
           ends = o.counts.ends ∙ ap (λ (n : ℕ). (made.book.ends + n) % 2 ^ 64) (omega (arith, both (λ x. length x.wrote), length-append u.wrote v.wrote));
@@ -114,7 +122,8 @@ module _ {P B : Type 0} (pass_seen : P → PassSeen) (book_seen : B → BookSeen
           spoilt = omega (arith, o.counts.spoilt, both (λ x. length x.spoilt), length-append u.spoilt v.spoilt);
           bad_met = λ b h. o.counts.bad_met b (omega (arith, both (bad_at b), total-append (found_bad b) u.mine v.mine));
           follows = o.counts.follows;
-          idle = cases (λ x. x.spent ≡ true → (x.wrote ≡ []) × (x.cleared ≡ []) × (x.spoilt ≡ [])) (λ _. (refl, refl, refl)) (λ q. absurd (false≢true (sym live ∙ q))) o.counts.idle;
+          given = among_more o.book made.book (gave_by s.views) (gave_by (set vs other done)) (gave_joined o.book s.views id other v u w done ne me there (among_right o.book u.gave v.gave) (among_left o.book u.gave v.gave)) o.counts.given;
+          idle = cases (λ x. x.spent ≡ true → (x.wrote ≡ []) × (x.cleared ≡ []) × (x.spoilt ≡ []) × (x.gave ≡ [])) (λ _. (refl, refl, refl, refl)) (λ q. absurd (false≢true (sym live ∙ q))) o.counts.idle;
           told_shut = cases (λ x. x.shut ≡ true → o.book.shut ≡ true) (λ q. absurd (false≢true q)) (λ q. shut_cases v.shut u.shut (o.book.shut ≡ true) (o.counts.told_shut id v me) (o.counts.told_shut other u there) q) o.counts.told_shut;
         };
         slots = record {

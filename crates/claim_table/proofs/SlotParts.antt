@@ -8,8 +8,8 @@ use Rattle.vd_arm.specs.Arm.{PassSeen}
 use Rattle.key_state.specs.declared.entry.Entry.TheVariants.{Bad}
 use Rattle.key_state.specs.declared.seen.BookSeen.{BookSeen}
 use Rattle.claim_table.specs.Lanes.{code_at}
-use Rattle.claim_table.specs.Sums.{total, Each}
-use Rattle.claim_table.specs.Views.{blocks_of, now_at, at, bad_at, lent, has_loan}
+use Rattle.claim_table.specs.Sums.{total, Each, Among}
+use Rattle.claim_table.specs.Views.{blocks_of, now_at, at, bad_at, lent, has_loan, gave_by}
 use Rattle.claim_table.specs.Rule.{Counts, PassHome, Parked, Slots, Lock}
 use Rattle.claim_table.specs.declared.view.Item.{Item}
 use Rattle.claim_table.specs.declared.view.View.{View}
@@ -17,18 +17,20 @@ use Rattle.claim_table.specs.declared.view.Made.{Made}
 use Rattle.claim_table.specs.declared.slot.Slot.{Slot}
 use Rattle.claim_table.proofs.Sums.{total-set}
 use Rattle.claim_table.proofs.Basics.{each_apart}
+use Rattle.claim_table.proofs.GaveBack.{among_more, gave_set}
 
-pub counts_kept : (made : Made) (book : BookSeen) (views : List View) (o : Counts made book views) (id : ℕ) (v w : View) → get_elem? views id ≡ some v → w.wrote ≡ v.wrote → w.cleared ≡ v.cleared → w.spoilt ≡ v.spoilt → w.shut ≡ v.shut → w.spent ≡ v.spent → ((b : ℕ) → (bad_at b w ≡ bad_at b v) ⊎ (now_at book b ≡ Bad)) → Counts made book (set views id w)
-counts_kept made book views o id v w me wrote cleared spoilt shut spent bads = record {
+pub counts_kept : (made : Made) (book : BookSeen) (views : List View) (o : Counts made book views) (id : ℕ) (v w : View) → get_elem? views id ≡ some v → w.wrote ≡ v.wrote → w.cleared ≡ v.cleared → w.spoilt ≡ v.spoilt → w.gave ≡ v.gave → w.shut ≡ v.shut → w.spent ≡ v.spent → ((b : ℕ) → (bad_at b w ≡ bad_at b v) ⊎ (now_at book b ≡ Bad)) → Counts made book (set views id w)
+counts_kept made book views o id v w me wrote cleared spoilt gave shut spent bads = record {
   ends = o.ends ∙ ap (λ (n : ℕ). (made.book.ends + n) % 2 ^ 64) (omega (arith, total-set (λ u. length u.wrote) views id v w me, ap length wrote));
   clears = o.clears ∙ ap (λ (n : ℕ). (made.book.clears + n) % 2 ^ 64) (omega (arith, total-set (λ u. length u.cleared) views id v w me, ap length cleared));
   spoilt = omega (arith, o.spoilt, total-set (λ u. length u.spoilt) views id v w me, ap length spoilt);
   bad_met = λ b some-bad. ⊎_elim (λ (e : bad_at b w ≡ bad_at b v). o.bad_met b (omega (arith, total-set (bad_at b) views id v w me))) (λ (e : now_at book b ≡ Bad). e) (bads b);
   follows = o.follows;
+  given = among_more book made.book (gave_by views) (gave_by (set views id w)) (gave_set book views id v w me (subst (Among book) (sym gave))) o.given;
   idle = λ j u at-j asleep. ⊎_elim
       (λ (t : (j ≡ id) × (w ≡ u)). let was = o.idle id v me (sym spent ∙ (ap (λ (x : View). x.spent) t.1 ∙ asleep)) in
-      let Q : View → Type 0 = λ x. (x.wrote ≡ []) × (x.cleared ≡ []) × (x.spoilt ≡ []) in
-      subst Q t.1 (wrote ∙ was.0, cleared ∙ was.1, spoilt ∙ was.2))
+      let Q : View → Type 0 = λ x. (x.wrote ≡ []) × (x.cleared ≡ []) × (x.spoilt ≡ []) × (x.gave ≡ []) in
+      subst Q t.1 (wrote ∙ was.0, cleared ∙ was.1, spoilt ∙ was.2, gave ∙ was.3))
       (λ t. o.idle j u t.1 asleep) (at_set views id j w u at-j);
   told_shut = λ j u at-j is-shut. ⊎_elim (λ t. o.told_shut id v me (sym shut ∙ (ap (λ (x : View). x.shut) t.1 ∙ is-shut))) (λ t. o.told_shut j u t.1 is-shut) (at_set views id j w u at-j);
 }

@@ -8,7 +8,7 @@ use Rattle.key_state.specs.declared.seen.BookSeen.{BookSeen}
 use Rattle.claim_table.specs.Codes.{code_of, IsCoded}
 use Rattle.claim_table.specs.Lanes.{lane, word_of, shifted}
 use Rattle.claim_table.specs.Sums.{Each}
-use Rattle.claim_table.specs.Views.{blocks_of, parts_in, claimed, turned_away, released, with_hand, given}
+use Rattle.claim_table.specs.Views.{blocks_of, parts_in, now_at, holds, bad_at, LentAs, claimed, turned_away, released, with_hand, given}
 use Rattle.claim_table.specs.Passes.{IsPassFor}
 use Rattle.claim_table.specs.Books.{Lends}
 use Rattle.claim_table.specs.declared.view.Item.{Item}
@@ -24,13 +24,20 @@ Sat P B = Me (Slot P B) View
 abbrev pub lending : View → BookSeen → View
 lending view book = record view { loan = Some book; hand = blocks_of view.made + 1 }
 
+-- A word has this entry of the block, which is busy or not.
+abbrev pub ReadsAs : ℕ → ℕ → Entry → Type 0
+ReadsAs word block entry = IsCoded entry × (lane word (block % 4) % 2 ^ 15 ≡ code_of entry)
+
 module _ {P B : Type 0} where
-  -- A load: the seat is as before, and sees each block's entry, for a block that it holds the one that it was claimed with.
+  -- A load: the seat is as before, and sees each block's entry: of a block that it holds the one that it was claimed with, of one that it
+  -- ever met as bad that, and where it has all parts and the book, of a block that it doesn't hold the book's.
   abbrev pub looked : Step (Slot P B) → Sat P B → ℕ → Sat P B → Type 0
   looked st m r m' =
       (m' ≡ m)
       × ((b : ℕ) → m.0.spent ≡ false → b < blocks_of m.0.made → st.word ≡ word_of b
-      → ((e : Entry) × IsCoded e × (lane r (b % 4) % 2 ^ 15 ≡ code_of e)) × Each (λ i. i.block ≡ b → IsCoded i.was × (lane r (b % 4) % 2 ^ 15 ≡ code_of i.was)) m.0.held)
+      → ((e : Entry) × ReadsAs r b e) × Each (λ i. i.block ≡ b → ReadsAs r b i.was) m.0.held
+      × (0 < bad_at b m.0 → ReadsAs r b Bad)
+      × (m.0.parts ≡ parts_in m.0.made → holds b m.0 ≡ 0 → (f : BookSeen) → m.0.loan ≡ Some f → ReadsAs r b (now_at f b)))
 
   -- A load, at which the slot that is out goes home.
   abbrev pub parks : Step (Slot P B) → Sat P B → ℕ → Sat P B → Type 0
@@ -57,10 +64,11 @@ module _ {P B : Type 0} (pass_seen : P → PassSeen) (book_seen : B → BookSeen
   -- what a claim of block b tells where it found this word, and x in the block's lane
   abbrev pub Claiming : ℕ → ℕ → ℕ → Sat P B → Sat P B → Type 0
   Claiming b word x m m' =
-      (2 ^ 15 ≤ x → (m' ≡ (turned_away m.0 b word, m.1)) × (m.0.parts < parts_in m.0.made))
+      (2 ^ 15 ≤ x → (m' ≡ (turned_away m.0 b word, m.1)) × (m.0.parts < parts_in m.0.made) × ((e : Entry) × IsCoded e × (x ≡ code_of e + 2 ^ 15)))
       × (x < 2 ^ 15 → (e : Entry) × IsCoded e × (x ≡ code_of e)
       × (e ≡ Bad → m' ≡ (claimed m.0 b e, m.1))
-      × (e ≢ Bad → (pass : P) × (m' ≡ (with_hand (claimed m.0 b e) (b + 1), (b, slot.Pass pass) ∷ m.1)) × IsPassFor m.0.made b e (pass_seen pass)))
+      × (e ≢ Bad → (pass : P) × (m' ≡ (with_hand (claimed m.0 b e) (b + 1), (b, slot.Pass pass) ∷ m.1)) × IsPassFor m.0.made b e (pass_seen pass))
+      × LentAs m.0 b e)
 
   abbrev pub claims : Step (Slot P B) → Sat P B → ℕ → Sat P B → Type 0
   claims st m r m' = (b : ℕ) → st.word ≡ word_of b → st.first ≡ shifted b (2 ^ 15) → Claiming b r (lane r (b % 4)) m m'

@@ -1,5 +1,5 @@
 -- The rule of the table: what the words, the book, the slots and the views of the seats have to do with each other.
-use Rattle.std.specs.Prelude.{◌≡◌, ◌≢◌, ℕ, ◌+◌, ◌/◌, ◌%◌, ◌^◌, ◌<◌, ◌≤◌, Bool, true, false, List, [], length, map, slice_index, Some}
+use Rattle.std.specs.Prelude.{◌≡◌, ◌≢◌, ℕ, ◌+◌, ◌/◌, ◌%◌, ◌^◌, ◌<◌, ◌≤◌, Bool, true, false, List, [], ◌∷◌, length, map, slice_index, Some}
 use mathlib.Core.Option as maybe
 use mathlib.Core.Option.{some}
 use lib.ListN.{get_elem?}
@@ -11,8 +11,8 @@ use Rattle.key_state.specs.declared.entry.Entry.TheVariants.{Bad}
 use Rattle.key_state.specs.declared.seen.BookSeen.{BookSeen}
 use Rattle.claim_table.specs.Codes.{code_of, IsCoded}
 use Rattle.claim_table.specs.Lanes.{code_at}
-use Rattle.claim_table.specs.Sums.{total, Each}
-use Rattle.claim_table.specs.Views.{blocks_of, parts_in, now_at, synced_at, holds, answered, busy_at, other_at, bad_at, parts, bad, has_loan, IsFalling}
+use Rattle.claim_table.specs.Sums.{total, Each, Among}
+use Rattle.claim_table.specs.Views.{blocks_of, parts_in, now_at, synced_at, holds, answered, answered_as, busy_at, other_at, busy_as, other_as, bad_at, parts, bad, has_loan, gave_by, IsFalling}
 use Rattle.claim_table.specs.Passes.{IsPassFor}
 use Rattle.claim_table.specs.declared.view.Item.{Item}
 use Rattle.claim_table.specs.declared.view.Try.{Try}
@@ -36,13 +36,15 @@ pub record Fits (made : Made) (book : BookSeen) (words : List ℕ) (has : List I
   pub falls : IsFalling has
   pub few : length has ≤ 64
   pub stands : Each (λ i. 0 < total (answered i.block) mine) has
+  pub said : Each (λ i. 0 < total (answered_as i.block (code_of i.was)) mine) has
   pub live : spent ≡ false → (knows ≡ made) × (0 < share)
   pub dead : spent ≡ true → (has ≡ []) × (mine ≡ []) × (share ≡ 0)
 
 abbrev pub FitsView : Made → BookSeen → List ℕ → View → Type 0
 FitsView made book words view = Fits made book words view.held view.mine view.parts view.spent view.made
 
--- The words of the blocks: a block is busy exactly where one view holds it, and else its word has the book's entry.
+-- The words of the blocks: a block is busy exactly where one view holds it, and else its word has the book's entry. That of a block that
+-- was ever met as bad stays bad. Each word in which a block was found busy has the entry with which a claim of that block was answered.
 pub record Claims (made : Made) (book : BookSeen) (words : List ℕ) (views : List View) : Type 0 where
   pub wide : length words ≡ (blocks_of made + 3) / 4 + 1
   pub busy : (b : ℕ) → b < blocks_of made → total (holds b) views ≡ code_at words b / 2 ^ 15
@@ -51,18 +53,22 @@ pub record Claims (made : Made) (book : BookSeen) (words : List ℕ) (views : Li
   pub free : (b : ℕ) → b < blocks_of made → code_at words b < 2 ^ 15 → (code_at words b ≡ code_of (now_at book b)) × IsCoded (now_at book b)
   pub each : (j : ℕ) (view : View) → get_elem? views j ≡ some view → FitsView made book words view
   pub met : (b : ℕ) → 0 < total (busy_at b) views → 0 < total (other_at b) views
+  pub found : (b code : ℕ) → 0 < total (busy_as b code) views → 0 < total (other_as b code) views
   pub alone : length views ≡ 1 → (b : ℕ) → total (busy_at b) views ≡ 0
   pub whole : total parts views ≡ parts_in made
   pub sized : length book.now ≡ blocks_of made
+  pub stays : (b : ℕ) → b < blocks_of made → 0 < total (bad_at b) views → code_at words b % 2 ^ 15 ≡ code_of Bad
 
--- The tallies: each write that was ended, each block that was cleared and each that was made bad stands in one view.
+-- The tallies: each write that was ended, each block that was cleared and each that was made bad stands in one view. The book is the one
+-- that the table was made with, or stands in a view as one that was given back.
 pub record Counts (made : Made) (book : BookSeen) (views : List View) : Type 0 where
   pub ends : book.ends ≡ (made.book.ends + total (λ view. length view.wrote) views) % 2 ^ 64
   pub clears : book.clears ≡ (made.book.clears + total (λ view. length view.cleared) views) % 2 ^ 64
   pub spoilt : total bad book.now ≡ total bad made.book.now + total (λ view. length view.spoilt) views
   pub bad_met : (b : ℕ) → 0 < total (bad_at b) views → now_at book b ≡ Bad
   pub follows : Follows made.book book
-  pub idle : (j : ℕ) (view : View) → get_elem? views j ≡ some view → view.spent ≡ true → (view.wrote ≡ []) × (view.cleared ≡ []) × (view.spoilt ≡ [])
+  pub given : Among book (made.book ∷ gave_by views)
+  pub idle : (j : ℕ) (view : View) → get_elem? views j ≡ some view → view.spent ≡ true → (view.wrote ≡ []) × (view.cleared ≡ []) × (view.spoilt ≡ []) × (view.gave ≡ [])
   pub told_shut : (j : ℕ) (view : View) → get_elem? views j ≡ some view → view.shut ≡ true → book.shut ≡ true
 
 module _ {P B : Type 0} (pass_seen : P → PassSeen) (book_seen : B → BookSeen) where

@@ -1,13 +1,13 @@
 -- Runs of blocks that a seat claims and releases.
-use Rattle.std.specs.Prelude.{⊤, ◌≡◌, ◌≢◌, ℕ, ◌+◌, ◌%◌, ◌^◌, ◌<◌, ◌≤◌, List, [], ◌∷◌, length}
+use Rattle.std.specs.Prelude.{⊤, ◌≡◌, ◌≢◌, ℕ, ◌+◌, ◌<◌, List, [], ◌∷◌, length}
 use Rattle.vd_arm.specs.Arm.{PassSeen}
 use Rattle.key_state.specs.Entries.{IsEntry}
 use Rattle.key_state.specs.declared.entry.Entry.{Entry}
 use Rattle.key_state.specs.declared.entry.Entry.TheVariants.{Bad}
-use Rattle.claim_table.specs.Lanes.{lane}
 use Rattle.claim_table.specs.Sums.{Each}
-use Rattle.claim_table.specs.Views.{parts_in, claimed, turned_away, met_bad, released}
+use Rattle.claim_table.specs.Views.{parts_in, LentAs, claimed, turned_away, met_bad, released}
 use Rattle.claim_table.specs.Passes.{IsPassFor}
+use Rattle.claim_table.specs.Seats.{IsBusyIn}
 use Rattle.claim_table.specs.declared.view.Item.{Item}
 use Rattle.claim_table.specs.declared.view.View.{View}
 use Rattle.claim_table.specs.declared.view.Made.{Made}
@@ -31,6 +31,11 @@ ArePassesFor pass_seen made first [] (pass ∷ passes) = ⊥
 ArePassesFor pass_seen made first (entry ∷ entries) [] = ⊥
 ArePassesFor pass_seen made first (entry ∷ entries) (pass ∷ passes) = IsPassFor made first entry (pass_seen pass) × ArePassesFor pass_seen made (first + 1) entries passes
 
+-- Where the seat has the book, it has these entries of the blocks from the first on.
+abbrev pub AreLentAs : View → ℕ → List Entry → Type 0
+AreLentAs view first [] = ⊤
+AreLentAs view first (entry ∷ entries) = LentAs view first entry × AreLentAs view (first + 1) entries
+
 -- an entry with which a block can be had
 abbrev pub CanBeHad : Entry → Type 0
 CanBeHad entry = IsEntry entry × (entry ≢ Bad)
@@ -43,14 +48,16 @@ RunAnswers pass_seen before first many (run_claim.Claimed run) after =
     × Each CanBeHad run.entries.items
     × (after ≡ claimed_all before first run.entries.items)
     × ArePassesFor pass_seen before.made first run.entries.items run.passes.items
+    × AreLentAs before first run.entries.items
 RunAnswers pass_seen before first many (run_claim.Busy room block word) after =
     (had : List Entry)
     × Each CanBeHad had
     × (length had < many)
     × (block.0 ≡ first + length had)
-    × (2 ^ 15 ≤ lane word (block.0 % 4))
+    × IsBusyIn word block.0
     × (after ≡ released (turned_away (claimed_all before first had) block.0 word) before.held)
     × (before.parts < parts_in before.made)
+    × AreLentAs before first had
     × (room.entries.items ≡ [])
 RunAnswers pass_seen before first many (run_claim.BadBlock room block) after =
     (had : List Entry)
@@ -58,4 +65,6 @@ RunAnswers pass_seen before first many (run_claim.BadBlock room block) after =
     × (length had < many)
     × (block.0 ≡ first + length had)
     × (after ≡ released (met_bad (claimed_all before first had) block.0) before.held)
+    × LentAs before block.0 Bad
+    × AreLentAs before first had
     × (room.entries.items ≡ [])

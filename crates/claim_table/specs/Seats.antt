@@ -1,5 +1,6 @@
 -- What contracts see of a seat, and what the calls on blocks and on the book tell.
-use Rattle.std.specs.Prelude.{◌≡◌, ◌≢◌, ℕ, ◌%◌, ◌^◌, ◌<◌, ◌≤◌, false, List, [], ◌∷◌, Some, None}
+use Rattle.std.specs.Prelude.{◌≡◌, ◌≢◌, ℕ, ◌+◌, ◌%◌, ◌^◌, ◌<◌, false, List, [], ◌∷◌, Some, None}
+use Rattle.std.specs.Vec.{vec_capacity}
 use Rattle.atomic_table.specs.Seated.{TableId}
 use Rattle.atomic_table.specs.declared.shared.Seat.{Seat}
 use Rattle.vd_base.specs.declared.geometry.StoreId.{StoreId}
@@ -8,8 +9,9 @@ use Rattle.key_state.specs.Entries.{IsEntry}
 use Rattle.key_state.specs.declared.entry.Entry.{Entry}
 use Rattle.key_state.specs.declared.entry.Entry.TheVariants.{Bad}
 use Rattle.key_state.specs.declared.seen.BookSeen.{BookSeen}
+use Rattle.claim_table.specs.Codes.{code_of, IsCoded}
 use Rattle.claim_table.specs.Lanes.{lane}
-use Rattle.claim_table.specs.Views.{fresh, parts_in, claimed, turned_away, met_bad}
+use Rattle.claim_table.specs.Views.{fresh, parts_in, LentAs, claimed, turned_away, met_bad}
 use Rattle.claim_table.specs.Passes.{IsPassFor}
 use Rattle.claim_table.specs.Books.{MayGive}
 use Rattle.claim_table.specs.Rule.{made_of}
@@ -42,6 +44,10 @@ IsIdle table seat = IsSeatOf table seat × ((view_of seat).held ≡ []) × ((vie
 abbrev pub made_in : {P B : Type 0} → (P → PassSeen) → (B → BookSeen) → ClaimTable P B → Made
 made_in pass_seen book_seen table = made_of pass_seen book_seen table.table.shared.key
 
+-- how many passes the list has room for that a table keeps for its passes
+abbrev pub room_of : {P B : Type 0} → ClaimTable P B → ℕ
+room_of table = vec_capacity table.room
+
 -- A seat between two calls, as a step takes it: no slot is out with it.
 abbrev pub AtRest : {P B : Type 0} → TableId → StoreId → Seat (Slot P B) View → Type 0
 AtRest id store place =
@@ -52,6 +58,10 @@ AtRest id store place =
     × (flaws place.me.0 ≡ 0)
     × (place.me.0.made.store ≡ store)
 
+-- The word has an entry of the block, and that it is busy.
+abbrev pub IsBusyIn : ℕ → ℕ → Type 0
+IsBusyIn word block = (entry : Entry) × IsCoded entry × (lane word (block % 4) ≡ code_of entry + 2 ^ 15)
+
 -- What a claim answers, by the view before and after it.
 abbrev pub Answers : {P : Type 0} → (P → PassSeen) → View → ℕ → Claim P → View → Type 0
 Answers pass_seen before block (claim.Claimed held) after =
@@ -60,11 +70,12 @@ Answers pass_seen before block (claim.Claimed held) after =
     × (held.entry ≢ Bad)
     × (after ≡ claimed before block held.entry)
     × IsPassFor before.made block held.entry (pass_seen held.pass)
+    × LentAs before block held.entry
 Answers pass_seen before block (claim.Busy word) after =
-    (2 ^ 15 ≤ lane word (block % 4))
+    IsBusyIn word block
     × (after ≡ turned_away before block word)
     × (before.parts < parts_in before.made)
-Answers pass_seen before block claim.BadBlock after = after ≡ met_bad before block
+Answers pass_seen before block claim.BadBlock after = (after ≡ met_bad before block) × LentAs before block Bad
 
 -- The block is the newest that the view holds, and this is its entry in the book as the seat knows it.
 abbrev pub IsNewest : View → ℕ → Entry → Type 0

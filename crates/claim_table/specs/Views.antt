@@ -1,9 +1,12 @@
 -- Words on what a seat knows, and how each step changes it.
-use Rattle.std.specs.Prelude.{⊤, ℕ, ◌+◌, ◌-◌, ◌*◌, ◌/◌, ◌^◌, ◌<◌, Bool, true, false, cond, ◌==◌, ◌&&◌, List, [], ◌∷◌, ◌++◌, map, Option, Some, None}
+use Rattle.std.specs.Prelude.{⊤, ◌≡◌, ℕ, ◌+◌, ◌-◌, ◌*◌, ◌/◌, ◌%◌, ◌^◌, ◌<◌, Bool, true, false, cond, ◌==◌, ◌&&◌, List, [], ◌∷◌, ◌++◌, map, Option, Some, None}
 use Rattle.key_state.specs.Entries.{entry_at}
+use Rattle.key_state.specs.Books.{used}
 use Rattle.key_state.specs.declared.entry.Entry.{Entry}
 use Rattle.key_state.specs.declared.entry.Entry.TheVariants.{Settled, Pending, Bad}
 use Rattle.key_state.specs.declared.seen.BookSeen.{BookSeen}
+use Rattle.claim_table.specs.Codes.{code_of}
+use Rattle.claim_table.specs.Lanes.{lane}
 use Rattle.claim_table.specs.Sums.{total, Each}
 use Rattle.claim_table.specs.declared.view.Item.{Item}
 use Rattle.claim_table.specs.declared.view.Answer.{Answer}
@@ -72,6 +75,29 @@ other_at block view = total (answered block) view.mine
 abbrev pub bad_at : ℕ → View → ℕ
 bad_at block view = total (found_bad block) view.mine
 
+-- one for a busy answer whose word has this code of an entry for the block, and for another answer with an entry of this code
+abbrev pub busy_with : ℕ → ℕ → Answer → ℕ
+busy_with block code (answer.Busy word) = cond (lane word (block % 4) == code + 2 ^ 15) 1 0
+busy_with block code _ = 0
+
+abbrev pub other_with : ℕ → Answer → ℕ
+other_with code (answer.Claimed entry) = cond (code_of entry == code) 1 0
+other_with code (answer.Busy word) = 0
+other_with code answer.Bad = cond (code_of Bad == code) 1 0
+
+abbrev pub refused_as : ℕ → ℕ → Try → ℕ
+refused_as block code t = cond (t.block == block) (busy_with block code t.answer) 0
+
+abbrev pub answered_as : ℕ → ℕ → Try → ℕ
+answered_as block code t = cond (t.block == block) (other_with code t.answer) 0
+
+-- how often the view met the block busy with an entry of this code, and how often it was answered that entry
+abbrev pub busy_as : ℕ → ℕ → View → ℕ
+busy_as block code view = total (refused_as block code) view.mine
+
+abbrev pub other_as : ℕ → ℕ → View → ℕ
+other_as block code view = total (answered_as block code) view.mine
+
 abbrev pub parts : View → ℕ
 parts view = view.parts
 
@@ -87,6 +113,15 @@ lent (Some book) = 1
 abbrev pub has_loan : View → ℕ
 has_loan view = lent view.loan
 
+-- all books that seats with these views gave back
+abbrev pub gave_by : List View → List BookSeen
+gave_by [] = []
+gave_by (view ∷ views) = view.gave ++ gave_by views
+
+-- Where the seat has the book, it has this entry of the block.
+abbrev pub LentAs : View → ℕ → Entry → Type 0
+LentAs view block entry = (book : BookSeen) → view.loan ≡ Some book → now_at book block ≡ entry
+
 -- Each block is above those claimed before it.
 abbrev pub IsFalling : List Item → Type 0
 IsFalling [] = ⊤
@@ -101,6 +136,7 @@ fresh made many = record {
   wrote = [];
   cleared = [];
   spoilt = [];
+  gave = [];
   shut = false;
   parts = many;
   spent = false;
@@ -141,12 +177,8 @@ abbrev pub has_ended : Entry → Entry → Bool
 has_ended (Pending old new) (Settled key) = key == new
 has_ended _ _ = false
 
-abbrev pub is_used : Entry → Bool
-is_used (Settled key) = cond (key == 0) false true
-is_used _ = true
-
 abbrev pub has_cleared : Entry → Entry → Bool
-has_cleared before (Settled key) = is_used before && (key == 0)
+has_cleared before (Settled key) = (used before == 1) && (key == 0)
 has_cleared _ _ = false
 
 abbrev pub has_spoilt : Entry → Entry → Bool
@@ -170,6 +202,7 @@ given view book = record view {
   wrote = those has_ended book view.held ++ view.wrote;
   cleared = those has_cleared book view.held ++ view.cleared;
   spoilt = those has_spoilt book view.held ++ view.spoilt;
+  gave = book ∷ view.gave;
   shut = cond view.shut true book.shut;
   hand = 0;
 }
@@ -197,6 +230,7 @@ joined view other = record view {
   wrote = other.wrote ++ view.wrote;
   cleared = other.cleared ++ view.cleared;
   spoilt = other.spoilt ++ view.spoilt;
+  gave = other.gave ++ view.gave;
   shut = cond view.shut true other.shut;
   parts = view.parts + other.parts;
 }

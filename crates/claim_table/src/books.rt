@@ -16,7 +16,8 @@ use std::sync::Wait;
 use vd_arm::Pass;
 
 impl<P: Pass, B: Book> ClaimTable<P, B> {
-    /// Takes the book, waiting until no other seat has it. In the core's words it is no event. It takes no memory.
+    /// Takes the book, waiting until no other seat has it. It takes no memory. In the core's words it is no event: neither the `fetch_or`
+    /// of the lock, which is tried again where it was set, nor the exchanges and the load by which the book comes out.
     pub fn take_book<R: Wait>(&self, rt: &R, seat: &mut ClaimSeat) -> B
         requires of { IsSeatOf self.now seat.old }
         requires free { (view_of seat.old).loan ≡ None }
@@ -59,9 +60,9 @@ impl<P: Pass, B: Book> ClaimTable<P, B> {
     /// was ended, and that were cleared.
     ///
     /// One `fetch_and` gives it back, at which the records, syncs and turnovers that were made under the loan take effect. In the core's
-    /// words these are its Begin, End, Bad, Clear, Sync and Turnover, with the turnovers that an append made. It neither waits nor takes
-    /// memory. An item is safe from then on exactly where the block's entry is
-    /// pending and is also the synced one.
+    /// words these are its Begin, End, Bad, Clear, Sync and Turnover, with the turnovers that an append made. The load and the exchanges
+    /// before it, by which the book goes home, are no events. It neither waits nor takes memory. An item is safe from then on exactly
+    /// where the block's entry is pending and is also the synced one.
     pub fn give_book(&self, seat: &mut ClaimSeat, book: B)
         requires of { IsSeatOf self.now seat.old }
         requires loan { Brings (view_of seat.old) (B.seen book) }
@@ -82,12 +83,12 @@ impl<P: Pass, B: Book> ClaimTable<P, B> {
     {
         let shared = &self.table.shared;
         shared.load::<FetchBook>(place, 0);
-        let mut shelf = match shared.exchange(place, self.blocks as usize, Slot::Empty) {
+        let mut home = match shared.exchange(place, self.blocks as usize, Slot::Empty) {
             Slot::Book(shelf) => shelf,
             _ => unreachable!(),
         };
-        shelf.put(book);
-        shared.exchange(place, self.blocks as usize, Slot::Book(shelf));
+        home.put(book);
+        shared.exchange(place, self.blocks as usize, Slot::Book(home));
         shared.fetch_and::<Return>(place, 0, u64::MAX - 1);
         shared.wake_one(0);
     }

@@ -1,8 +1,9 @@
 // Blocks are claimed, released and looked at.
 ghost use Rattle.std.specs.Prelude.{◌≡◌, ◌≢◌, ◌<◌, ◌∷◌, length};
+ghost use Rattle.key_state.specs.declared.entry.Entry.TheVariants.{Bad};
 ghost use Rattle.key_state.specs.Entries.{IsEntry};
 ghost use Rattle.claim_table.specs.Sums.{Each};
-ghost use Rattle.claim_table.specs.Views.{blocks_of, released};
+ghost use Rattle.claim_table.specs.Views.{blocks_of, parts_in, holds, bad_at, LentAs, released};
 ghost use Rattle.claim_table.specs.Passes.{IsPassFor};
 ghost use Rattle.claim_table.specs.Seats.{view_of, IsSeatOf, AtRest, Answers, IsNewest};
 
@@ -19,10 +20,12 @@ use vd_base::BlockNo;
 
 impl<P: Pass, B: Book> ClaimTable<P, B> {
     /// Claims a block above those that the seat holds, of which there are fewer than 64. Busy: the word that was found had the block's
-    /// busy bit, so another seat holds it. BadBlock: that word had it bad and not busy. Else it is the seat's, with its entry and
-    /// its pass, until `release`. A seat that has all parts never meets Busy.
+    /// busy bit, so another seat holds it, with an entry that its claim was answered. BadBlock: that word had it bad and not busy. Else it
+    /// is the seat's, with its entry and its pass, until `release`. A seat that has all parts never meets Busy. To one that has the book,
+    /// a block is as that book has it.
     ///
-    /// One `fetch_or` is the claim. In the core's words it is a Claim of the block, free or busy; for a bad block there is no event.
+    /// One `fetch_or` is the claim: in the core's words a Claim of the block, free or busy, and no event where the block is bad. What
+    /// follows it is none: the `exchange` and the load by which the pass comes out, and the `fetch_xor` that puts a bad block's bit back.
     pub fn claim(&self, seat: &mut ClaimSeat, block: BlockNo) -> Claim<P>
         requires of { IsSeatOf self.now seat.old }
         requires block { block.0 < blocks_of (view_of seat.old).made }
@@ -61,7 +64,8 @@ impl<P: Pass, B: Book> ClaimTable<P, B> {
             Slot::Pass(pass) => pass,
             _ => unreachable!(),
         };
-        shared.load::<Park>(place, 0);
+        // Of the block's own word, so that claims of other blocks don't meet at one.
+        shared.load::<Park>(place, at);
         Claim::Claimed(Claimed {
             block: BlockNo(block),
             entry,
@@ -73,8 +77,8 @@ impl<P: Pass, B: Book> ClaimTable<P, B> {
     /// book back since the claim, or as claimed. Where the table was made over bytes that fitted, the caller owes that the pass's bytes
     /// fit this entry.
     ///
-    /// One `fetch_xor` is the release. In the core's words it is a Release, and before it a Fault where the block's write was begun and
-    /// not ended.
+    /// One `fetch_xor` is the release: in the core's words a Release, and before it a Fault where the block's write was begun and not
+    /// ended. The load and the `exchange` before it, by which the pass goes home, are no events.
     pub fn release(&self, seat: &mut ClaimSeat, held: Claimed<P>)
         requires of { IsSeatOf self.now seat.old }
         requires newest { IsNewest (view_of seat.old) held.block.0 held.entry }
@@ -106,8 +110,9 @@ impl<P: Pass, B: Book> ClaimTable<P, B> {
         shared.fetch_xor::<Free>(place, at, in_lane(block.0, turn));
     }
 
-    /// The entry in a block's word, by one load: of a block that the seat holds the one that it was claimed with. Of another block it
-    /// says only that the entry is a valid one. In the core's words it is no event.
+    /// The entry in a block's word, by one load: of a block that the seat holds the one that it was claimed with; of one that it ever
+    /// met as bad, `Bad`; and where the seat has all parts and the book, of a block that it doesn't hold the book's. Of another block
+    /// it says only that the entry is a valid one. In the core's words it is no event.
     pub fn look(&self, seat: &mut ClaimSeat, block: BlockNo) -> Entry
         requires of { IsSeatOf self.now seat.old }
         requires block { block.0 < blocks_of (view_of seat.old).made }
@@ -115,6 +120,8 @@ impl<P: Pass, B: Book> ClaimTable<P, B> {
         ensures same { view_of seat.new ≡ view_of seat.old }
         ensures valid { IsEntry result }
         ensures held { Each (λ i. i.block ≡ block.0 → result ≡ i.was) (view_of seat.old).held }
+        ensures bad { 0 < bad_at block.0 (view_of seat.old) → result ≡ Bad }
+        ensures lent { (view_of seat.old).parts ≡ parts_in (view_of seat.old).made → holds block.0 (view_of seat.old) ≡ 0 → LentAs (view_of seat.old) block.0 result }
     {
         let mut place = mem::replace(&mut seat.badge, Badge::blank()).into_seat::<Slot<P, B>>();
         let entry = self.look_at(&mut place, block.0);
@@ -129,6 +136,8 @@ impl<P: Pass, B: Book> ClaimTable<P, B> {
         ensures same { place.new.me ≡ place.old.me }
         ensures valid { IsEntry result }
         ensures held { Each (λ i. i.block ≡ block → result ≡ i.was) place.old.me.0.held }
+        ensures bad { 0 < bad_at block place.old.me.0 → result ≡ Bad }
+        ensures lent { place.old.me.0.parts ≡ parts_in place.old.me.0.made → holds block place.old.me.0 ≡ 0 → LentAs place.old.me.0 block result }
     {
         let word = self.table.shared.load::<Look>(place, word_index(block));
         decode(of_lane(block, word) % BUSY)

@@ -8,7 +8,7 @@ ghost use Rattle.claim_table.specs.declared.slot.Slot.TheVariants as Slot;
 ghost use Rattle.claim_table.specs.Sums.{total};
 ghost use Rattle.claim_table.specs.Views.{parts, parts_in};
 ghost use Rattle.claim_table.specs.Closings.{HasPass, HasAll, Returned, Gathered};
-ghost use Rattle.claim_table.specs.Seats.{view_of, IsSeatOf, IsIdle, made_in};
+ghost use Rattle.claim_table.specs.Seats.{view_of, IsSeatOf, IsIdle, made_in, room_of};
 
 use crate::slot::Slot;
 use crate::table::{ClaimSeat, ClaimTable};
@@ -17,7 +17,7 @@ use key_state::Book;
 use std::alloc::Global;
 use vd_arm::Pass;
 
-/// The passes of all blocks, in order, into the list that was reserved for them.
+/// The passes of all blocks, in order, into the list that was kept for them.
 fn take_passes<P, B>(
     closed: &mut Closed<Slot<P, B>, Global>,
     blocks: u32,
@@ -31,6 +31,7 @@ fn take_passes<P, B>(
     ensures slots { (slots_items closed.new.slots ≡ slots_items closed.old.slots) × (slots_len closed.new.slots ≡ slots_len closed.old.slots) }
     ensures left { (k : ℕ) → k < blocks → slice_index_or (slots_filled closed.new.slots) k false ≡ false }
     ensures last { slice_index_or (slots_filled closed.new.slots) blocks false ≡ true }
+    ensures list { vec_capacity result ≡ vec_capacity room }
 {
     for block in 0..blocks {
         match closed.take(block as usize) {
@@ -44,11 +45,12 @@ fn take_passes<P, B>(
 impl<P: Pass, B: Book> ClaimTable<P, B> {
     /// Gives back the passes in block order, and the book. It takes all seats of the table, each of which holds no block and doesn't have
     /// the book. The book's Ends and Clears, and how many of its blocks are bad, are those that it was made with and what the seats'
-    /// lists add. It takes no memory.
+    /// lists add. It takes no memory: the passes go back into the list in which they came.
     pub fn close(self, seats: Vec<ClaimSeat>) -> (Vec<P>, B)
         requires idle { All (IsIdle self) seats.items }
         requires all { total parts (map view_of seats.items) ≡ parts_in (made_in P.seen B.seen self) }
-        ensures { Returned (made_in P.seen B.seen self) (map view_of seats.items) (map P.seen result.0.items) (B.seen result.1) }
+        ensures returned { Returned (made_in P.seen B.seen self) (map view_of seats.items) (map P.seen result.0.items) (B.seen result.1) }
+        ensures list { vec_capacity result.0 ≡ room_of self }
     {
         let seat = self.gather(seats);
         self.close_with(seat)
@@ -75,7 +77,8 @@ impl<P: Pass, B: Book> ClaimTable<P, B> {
     fn close_with(self, seat: ClaimSeat) -> (Vec<P>, B)
         requires idle { IsIdle self seat }
         requires all { HasAll (view_of seat) (made_in P.seen B.seen self) }
-        ensures { Returned (made_in P.seen B.seen self) (view_of seat ∷ []) (map P.seen result.0.items) (B.seen result.1) }
+        ensures returned { Returned (made_in P.seen B.seen self) (view_of seat ∷ []) (map P.seen result.0.items) (B.seen result.1) }
+        ensures list { vec_capacity result.0 ≡ room_of self }
     {
         let ClaimTable {
             table,

@@ -4,7 +4,7 @@
 //! book's and the block's, that the book is lent to one seat at a time and comes back with each write, clear and bad block counted once,
 //! and that closing gives back the passes in block order and the book. What contracts see of a seat is its view (`View`), plain data that
 //! only its own calls change; `specs/Rule.antt` says what the views, words, slots and book have to do with each other between any two
-//! steps. `claim`, `release` and `look` neither wait nor take memory, and so do `claim_run` and `release_run`, which are made of them;
+//! steps. `claim`, `release` and `look` neither wait nor take memory, nor do `claim_run` and `release_run`, which are made of them;
 //! `take_book` waits. While a block's pass is out, its holder's transfers on the device are the Writes, the Ack and the Fault of the core.
 //!
 //! It stands on `vd_base` (blocks and stores), `vd_arm` (passes), `key_state` (entries and books), `block_verdict` (bytes that fit an

@@ -6,7 +6,7 @@ ghost use Rattle.claim_table.specs.Sums.{total};
 ghost use Rattle.claim_table.specs.Views.{fresh};
 ghost use Rattle.claim_table.specs.Passes.{ArePasses};
 ghost use Rattle.claim_table.specs.Openings.{HasEntries, AreSlots, CameFrom, made_with, passes_in};
-ghost use Rattle.claim_table.specs.Seats.{view_of, IsNew, made_in};
+ghost use Rattle.claim_table.specs.Seats.{view_of, IsNew, made_in, room_of};
 
 use crate::code::{encode, in_lane, word_index};
 use crate::rule::Deal;
@@ -26,12 +26,11 @@ pub struct NewRefused<P, B> {
     pub book: B,
 }
 
-/// The memory of a table: its words, with each block's entry, its slots, the list for the passes at its end, and that of its seats.
+/// The memory of a table: its words, with each block's entry, its slots, and the list of its seats.
 #[derive(Drop)]
 struct Memory<P, B> {
     words: Vec<u64>,
     slots: Vec<Slot<P, B>>,
-    room: Vec<P>,
     seats: Vec<ClaimSeat>,
 }
 
@@ -66,30 +65,31 @@ fn reserve<P: Drop, B: Book>(
 ) -> Result<Memory<P, B>, AllocError>
     requires { length (B.seen book.now).now ≡ blocks }
     ensures words { IfOk result (λ m. HasEntries (B.seen book.now) blocks m.words.items) }
-    ensures lists { IfOk result (λ m. (m.slots.items ≡ []) × (m.room.items ≡ []) × (m.seats.items ≡ [])) }
-    ensures room { IfOk result (λ m. (blocks < vec_capacity m.slots) × (blocks ≤ vec_capacity m.room) × (seats ≤ vec_capacity m.seats)) }
+    ensures lists { IfOk result (λ m. (m.slots.items ≡ []) × (m.seats.items ≡ [])) }
+    ensures room { IfOk result (λ m. (blocks < vec_capacity m.slots) × (seats ≤ vec_capacity m.seats)) }
 {
     let words = packed(alloc, blocks, book)?;
     let slots = Vec::with_capacity(alloc, blocks as usize + 1)?;
-    let room = Vec::with_capacity(alloc, blocks as usize)?;
     let seats = Vec::with_capacity(alloc, seats as usize)?;
     Ok(Memory {
         words,
         slots,
-        room,
         seats,
     })
 }
 
+/// The passes go into slots, and the book behind them. The list in which they came is left empty.
 fn slots_of<P: Drop, B>(
     mut slots: Vec<Slot<P, B>>,
-    passes: Vec<P>,
+    passes: &mut Vec<P>,
     shelf: Shelf<B>,
 ) -> Vec<Slot<P, B>>
-    requires { (slots.items ≡ []) × (length passes.items < vec_capacity slots) }
-    ensures { result.items ≡ map Slot.Pass passes.items ++ Slot.Book shelf ∷ [] }
+    requires { (slots.items ≡ []) × (length passes.old.items < vec_capacity slots) }
+    ensures slots { result.items ≡ map Slot.Pass passes.old.items ++ Slot.Book shelf ∷ [] }
+    ensures emptied { passes.new.items ≡ [] }
+    ensures room { vec_capacity passes.new ≡ vec_capacity passes.old }
 {
-    for pass in passes {
+    for pass in passes.drain(..) {
         slots.push_reserved(Slot::Pass(pass));
     }
     slots.push_reserved(Slot::Book(shelf));
@@ -137,11 +137,11 @@ fn give_back<P: Drop, B: Drop>(mut slots: Vec<Slot<P, B>>, room: Vec<P>) -> NewR
 
 impl<P: Pass, B: Book> ClaimTable<P, B> {
     /// Makes a table over the passes of all blocks, in block order, and a book with one entry for each block, with 1 to 65,536 seats. Each
-    /// has 2^32 parts. Want of memory gives passes and book back.
+    /// has 2^32 parts. The list in which the passes came is kept for them. Want of memory gives passes and book back.
     pub fn new(
         alloc: Global,
         store: &StoreId,
-        passes: Vec<P>,
+        mut passes: Vec<P>,
         book: B,
         seats: u32,
     ) -> Result<(ClaimTable<P, B>, Vec<ClaimSeat>), NewRefused<P, B>>
@@ -149,6 +149,7 @@ impl<P: Pass, B: Book> ClaimTable<P, B> {
         requires passes { ArePasses store.now (map P.seen passes.items) }
         requires book { length (B.seen book).now ≡ store.now.geometry.blocks }
         ensures made { IfOk result (λ made. made_in P.seen B.seen made.0 ≡ made_with P.seen B.seen store.now seats passes.items book) }
+        ensures room { IfOk result (λ made. room_of made.0 ≡ vec_capacity passes) }
         ensures seats { IfOk result (λ made. (length made.1.items ≡ seats) × All (IsNew P.seen B.seen made.0) made.1.items) }
         ensures refused { IfErr result (λ back. (back.passes.items ≡ passes.items) × (back.book ≡ book)) }
     {
@@ -169,20 +170,20 @@ impl<P: Pass, B: Book> ClaimTable<P, B> {
         let Memory {
             words,
             slots,
-            room,
             seats: list,
         } = memory;
-        match Table::new(alloc, &words, slots_of(slots, passes, shelf), &key) {
+        let slots = slots_of(slots, &mut passes, shelf);
+        match Table::new(alloc, &words, slots, &key) {
             Ok((table, seat)) => {
                 let table = ClaimTable {
                     table,
                     blocks,
-                    room,
+                    room: passes,
                 };
                 let list = table.deal(seat, list, seats);
                 Ok((table, list))
             }
-            Err(Refused { slots }) => Err(give_back(slots, room)),
+            Err(Refused { slots }) => Err(give_back(slots, passes)),
         }
     }
 

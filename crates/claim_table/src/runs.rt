@@ -13,10 +13,11 @@ use vd_base::BlockNo;
 
 impl<P: Pass, B: Book> ClaimTable<P, B> {
     /// Claims so many blocks, 1 to 64, from the first on, all or none, for a seat that holds none. At the first block that is busy or
-    /// bad it releases those that it had, and answers that block. The room is an empty run.
+    /// bad it releases those that it had, and answers that block. The room is an empty run. To a seat that has the book, each block is
+    /// as that book has it.
     ///
-    /// It is made of `claim` and `release`: in the core's words it is a Claim of each block up to the one that it answers, and a Release
-    /// of each that it gives up.
+    /// It is made of `claim` and `release`: in the core's words it is a Claim of each block that it had, a Claim of the busy block that
+    /// it answers, nothing for a bad one, and a Release of each block that it gives up. Their loads and exchanges are no events.
     pub fn claim_run(
         &self,
         seat: &mut ClaimSeat,
@@ -53,7 +54,8 @@ impl<P: Pass, B: Book> ClaimTable<P, B> {
     /// Releases the blocks of a run, which are the newest that the seat holds, from the last to the first, and gives the empty run back.
     /// Each has its pass and the entry that the book has for it, as `release` asks.
     ///
-    /// It is made of `release`: in the core's words it is a Release of each block.
+    /// It is made of `release`: in the core's words it is a Release of each block, and before it a Fault where the block's write was begun
+    /// and not ended. The loads and exchanges are no events.
     pub fn release_run(&self, seat: &mut ClaimSeat, run: Run<P>) -> Run<P>
         requires of { IsSeatOf self.now seat.old }
         requires newest { (others : _) × AreNewest run.first.0 run.entries.items (view_of seat.old).held others }

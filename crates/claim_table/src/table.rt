@@ -25,7 +25,7 @@ pub struct ClaimSeat {
 pub struct ClaimTable<P: Pass, B: Book> {
     pub(crate) table: Table<Slot<P, B>, View, Key<P, B>, Rule, Global>,
     pub(crate) blocks: u32,
-    // An empty list with room for all passes, so that closing takes no memory.
+    // The list in which the passes came, empty, so that closing takes no memory.
     pub(crate) room: Vec<P>,
     ghost words: { table.shared.table_id.words ≡ (blocks + 3) / 4 + 1 },
     ghost slots: { table.shared.table_id.slots ≡ blocks + 1 },

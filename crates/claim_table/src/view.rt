@@ -56,6 +56,8 @@ pub struct View {
     pub cleared: LinkedList<u32>,
     /// The blocks that it made bad.
     pub spoilt: LinkedList<u32>,
+    /// The books that it gave back, as it gave them.
+    pub gave: LinkedList<BookSeen>,
     /// Whether a book that it gave back was shut.
     pub shut: bool,
     /// Its parts of the right to close the table; there are 2^32 for each seat that the table was made with.

@@ -15,7 +15,7 @@ pub(crate) struct Start {
 pub(crate) struct Noted {
     /// How many of the word's seats it stands for.
     pub parts: u64,
-    /// What its notes answered, the newest first; of a seat that another was joined to, before what the other's answered.
+    /// What its notes answered, the newest first. Where another seat was joined to it, the answers of that one stand behind its own.
     pub answers: LinkedList<u64>,
     /// What the word was made with.
     pub made: Start,

@@ -20,6 +20,7 @@ loop-block-preserved g c = let i = c.loop-block.invariant in let t = c.take.ensu
   gone = λ k low. ap (λ fs. get_or fs k false) t.others.1 ∙ more_gone _ n i.gone k low;
   many = search rules;
   room = search rules;
+  list = search rules;
   each = let here : get_elem? (slots_items c.args.closed.now.slots) n ≡ some (slot.Pass c.in-Pass.pass) = ap (λ (xs : List (Slot g.row.P.Denot g.row.B.Denot)). get_elem? xs n) (sym i.items) ∙ (t.value ∙ ap some c.in-Pass.is) in
       let F : List g.row.P.Denot → Type 0 = λ r. (k : ℕ) → k < n + 1 → (q : g.row.P.Denot) × (get_elem? r k ≡ some q) × (get_elem? (slots_items c.args.closed.now.slots) k ≡ some (slot.Pass q)) in
       subst F (sym c.push_reserved.ensures.items) (more_taken _ c.loop-block.room.items n c.in-Pass.pass i.many here i.each);

@@ -15,5 +15,6 @@ invariant-loop-block g l = record {
   gone : (k : ℕ) → k < l.block → slice_index_or (slots_filled l.closed.slots) k false ≡ false;
   many : length l.room.items ≡ l.block;
   room : l.blocks ≤ vec_capacity l.room;
+  list : vec_capacity l.room ≡ vec_capacity l.initial.room;
   each : (k : ℕ) → k < l.block → (p : _) × (get_elem? l.room.items k ≡ some p) × (get_elem? (slots_items l.initial.closed.slots) k ≡ some (slot.Pass p));
 }

@@ -53,7 +53,7 @@ load-requires g c =
     let found = got _ g.B.Book.seen c.args.block c.fetch_or-found.result c.args.place.now.me c.fetch_or-found.new.seat.me (c.fetch_or-found.ensures.2 c.args.block c.word_index-at.ensures c.in_lane.ensures) low ne in
     let ex = c.exchange.ensures.3 in (
       search rules,
-      omega arith,
+      omega (arith, c.word_index-at.ensures, c.args.self.now.words, c.args.self.now.store, c.requires.block, ap (λ s. s.geometry.blocks) c.requires.of.5),
       parks_allowed _ _ _ _ _ _ (item c.args.block found.entry found.entry false) c.args.place.now.me.0.held _ _
           (ap (λ m. m.0.held) ex ∙ ap (λ m. m.0.held) found.seat) found.good (ap (λ m. m.0.hand) ex ∙ ap (λ m. m.0.hand) found.seat) (ap (λ m. m.1) ex),
     )

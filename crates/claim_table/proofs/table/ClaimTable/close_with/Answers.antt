@@ -45,8 +45,8 @@ take-book-requires g c =
     let there : get_elem? (slots_items c.close_with-closed.result.slots) c.args.self.blocks ≡ some (slot.Book c.in-Book.shelf) = ap (λ (xs : List (Slot g.row.P.Denot g.row.B.Denot)). get_elem? xs c.args.self.blocks) (sym c.take_passes-room.ensures.slots.0) ∙ (c.take.ensures.value ∙ ap some c.in-Book.is) in
     has_some x.1 c.in-Book.shelf x.0 (shelf_same {P = g.row.P.Denot} x.1 c.in-Book.shelf (some-injective (slot.Book x.1) (slot.Book c.in-Book.shelf) (sym here ∙ there))) x.3
 
-pub returns : goal.returns
-returns g c =
+pub returns-clause-returned : goal.returns-clause-returned
+returns-clause-returned g c =
     let v : View = first_of c.args.seat.badge.views in
     let made : Made = made_of {P = g.row.P.Denot} {B = g.row.B.Denot} g.P.Pass.seen g.B.Book.seen c.args.self.table.shared.key in
     let t = lying {P = g.row.P.Denot} {B = g.row.B.Denot} g.P.Pass.seen g.B.Book.seen made (slots_items c.close_with-closed.result.words) (slots_items c.close_with-closed.result.slots) c.into_seat.result.id v c.into_seat.result.me.0 c.close_with-closed.ensures.values.2

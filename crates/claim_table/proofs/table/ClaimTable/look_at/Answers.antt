@@ -1,6 +1,7 @@
-use Rattle.std.proofs.Common.{rules, arith, ap, ◌≡◌, ◌%◌, ◌^◌, ℕ}
-use Rattle.claim_table.specs.Codes.{code_of, IsCoded}
-use Rattle.claim_table.specs.Lanes.{lane}
+use Rattle.std.proofs.Common.{rules, arith, ap, sym, ◌≡◌, ℕ}
+use Rattle.key_state.specs.declared.entry.Entry.TheVariants.{Bad}
+use Rattle.claim_table.specs.Views.{now_at}
+use Rattle.claim_table.specs.Plays.{ReadsAs}
 use Rattle.claim_table.specs.declared.view.Item.{Item}
 use Rattle.claim_table.proofs.Basics.{each_map}
 use Rattle.claim_table.proofs.HeldSteps.{looks_allowed}
@@ -16,7 +17,17 @@ returns-clause-held g c =
     let b : ℕ = c.args.block in
     let r : ℕ = c.load-word.result in
     let told = (c.load-word.ensures.2.1 b c.requires.of.3 c.requires.block c.word_index.ensures).1 in
-    let P : Item → Type 0 = λ i. i.block ≡ b → IsCoded i.was × (lane r (b % 4) % 2 ^ 15 ≡ code_of i.was) in
+    let P : Item → Type 0 = λ i. i.block ≡ b → ReadsAs r b i.was in
     each_map P (λ i. i.block ≡ b → c.decode.result ≡ i.was) c.args.place.now.me.0.held
     (λ (i : Item) (h : P i) (at-b : i.block ≡ b). let t = h at-b in c.decode.ensures i.was t.0 (search (rules, t.1)))
     told
+
+pub returns-clause-bad : goal.returns-clause-bad
+returns-clause-bad g c met =
+    let told = (c.load-word.ensures.2.1 c.args.block c.requires.of.3 c.requires.block c.word_index.ensures).2 met in
+    c.decode.ensures Bad told.0 (search (rules, told.1))
+
+pub returns-clause-lent : goal.returns-clause-lent
+returns-clause-lent g c all none-held book has =
+    let told = (c.load-word.ensures.2.1 c.args.block c.requires.of.3 c.requires.block c.word_index.ensures).3 all none-held book has in
+    sym (c.decode.ensures (now_at book c.args.block) told.0 (search (rules, told.1)))
