@@ -4,3 +4,4 @@ pub mod Status
 pub mod Findings
 pub mod Lines
 pub mod Simulation
+pub mod Plans

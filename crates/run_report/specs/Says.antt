@@ -49,7 +49,7 @@ take_past (x ∷ t) u n =
     let e : suc (length t) + n ≡ suc (length t + n) = omega arith in
     ap (λ k. take k (x ∷ t ++ u)) e ∙ ap (λ l. x ∷ l) (take_past t u n)
 
-take_within : (t u : List ℕ) (n : ℕ) → take (min n (length t)) (t ++ u) ≡ take n t
+pub take_within : (t u : List ℕ) (n : ℕ) → take (min n (length t)) (t ++ u) ≡ take n t
 take_within t u n =
     let short : min n (length t) ≤ length t = omega arith in
     take-append-le (min n (length t)) t u short ∙ take_min n t

@@ -6,6 +6,8 @@
 
 mod finding;
 mod journal;
+mod plan;
+mod plan_print;
 mod printer;
 mod simulation;
 mod status;
@@ -13,6 +15,8 @@ mod words;
 
 pub use finding::{Verified, finding_line, verified_line};
 pub use journal::{damaged_line, journal_fault_line, journal_line, mismatch_line, no_journal_line};
+pub use plan::{parameter_column_line, parameter_line, run_line, share_line, store_line};
+pub use plan_print::say_plan;
 pub use printer::Printer;
 pub use simulation::{Simulated, simulation_line};
 pub use status::{Status, last_lines};
