@@ -1,5 +1,5 @@
 // The words of a command.
-ghost use Rattle.std.specs.Prelude.{◌≡◌, ◌+◌, ◌≤◌, IfSome, Some, map, string_bytes};
+ghost use Rattle.std.specs.Prelude.{◌≡◌, ◌+◌, ◌<◌, ◌≤◌, IfSome, Some, length, map, string_bytes};
 ghost use Rattle.command_words.specs.Flags.{flags_of, is_own_name as may_be_name, joined_flag as flag_joined, split_flag as flag_split, word_flag as flag_of_word};
 ghost use Rattle.command_words.specs.Said.{count_of, finished as command_finished, nothing_said, said_after, with_flag_said, with_named, with_some};
 ghost use Rattle.command_words.specs.Words.{command_by, command_said, number_said, simulates};
@@ -193,7 +193,9 @@ fn number_of_words(words: &[String]) -> Option<&str>
 /// folder isn't empty, and one in a word of its own doesn't begin with `-`. Or `-sim` and a number from 0 to 1,000,000, alone. None for
 /// all other words.
 pub fn command_of(words: &[String]) -> Option<Command>
-    ensures { result ≡ command_said (map string_bytes words.now) }
+    ensures said { result ≡ command_said (map string_bytes words.now) }
+    // The place named is a word's.
+    ensures file { IfSome result (λ command. IfSome command.file (λ at. at < length words.now)) }
 {
     match number_of_words(words) {
         Some(number) => schedule_said(number),

@@ -9,7 +9,7 @@ use Rattle.parm_lex.specs.declared.fault.LexWhy.TheVariants.{AfterValue, EmptyVa
 use Rattle.parm_lex.specs.declared.span.LinePlace.{LinePlace}
 use Rattle.parm_lex.specs.declared.span.Span.{Span}
 
-runs_count : {S X F : Type 0} (step : S → Result (X × Bool × S) F → Type 0) (size : S → ℕ) → ((s : S) (x : X) (last : Bool) (t : S) → step s (Ok (x, last, t)) → size t < size s) → (s : S) (xs : List X) (t : S) → Runs step s xs t → length xs + size t ≤ size s
+pub runs_count : {S X F : Type 0} (step : S → Result (X × Bool × S) F → Type 0) (size : S → ℕ) → ((s : S) (x : X) (last : Bool) (t : S) → step s (Ok (x, last, t)) → size t < size s) → (s : S) (xs : List X) (t : S) → Runs step s xs t → length xs + size t ≤ size s
 runs_count step size less s [] t runs = subst (λ v. 0 + size v ≤ size s) runs (omega arith)
 runs_count step size less s (x ∷ xs) t runs =
     let first : size runs.0 < size s = less s x false runs.0 runs.1 in
@@ -23,7 +23,7 @@ chain_count step size less s r chain =
     let last : size r.1 < size chain.2 = less chain.2 chain.1 true r.1 chain.4 in
     subst (λ xs. length xs ≤ size s) (sym chain.5) (simp length-append (omega arith))
 
-abbrev ItemNoLonger : List ℕ → Result (Span × List ℕ) LexFault → Type 0
+abbrev pub ItemNoLonger : List ℕ → Result (Span × List ℕ) LexFault → Type 0
 ItemNoLonger bytes (Err f) = Unit {0}
 ItemNoLonger bytes (Ok r) = length r.1 ≤ length bytes
 
@@ -35,10 +35,10 @@ item_within : (a b : List ℕ) (r : Result (Span × List ℕ) LexFault) → leng
 item_within a b (Err f) h k = tt
 item_within a b (Ok r) h k = omega arith
 
-dropped : (n : ℕ) (bytes : List ℕ) → length (drop n bytes) ≤ length bytes
+pub dropped : (n : ℕ) (bytes : List ℕ) → length (drop n bytes) ≤ length bytes
 dropped n bytes = simp length-drop (omega arith)
 
-blanks_dropped : (bytes : List ℕ) → length (blanks_off bytes) ≤ length bytes
+pub blanks_dropped : (bytes : List ℕ) → length (blanks_off bytes) ≤ length bytes
 unfolding blanks_off
 blanks_dropped bytes = dropped (position_or_len (λ byte. not (is_blank byte)) bytes) bytes
 
@@ -55,13 +55,13 @@ quoted_no_longer : (place : LinePlace) (bytes : List ℕ) → ItemNoLonger bytes
 quoted_no_longer place bytes =
     item_within (drop (inside_len bytes) bytes) bytes (quoted_at place bytes) (dropped (inside_len bytes) bytes) (close_no_longer place (span_at place bytes (inside_len bytes)) (drop (inside_len bytes) bytes))
 
-item_no_longer : (place : LinePlace) (bytes : List ℕ) → ItemNoLonger bytes (item_at place bytes)
+pub item_no_longer : (place : LinePlace) (bytes : List ℕ) → ItemNoLonger bytes (item_at place bytes)
 unfolding item_at
 item_no_longer place [] = bare_no_longer place []
 item_no_longer place (byte ∷ rest) =
     item_either (byte ∷ rest) (nat_eq byte 34) (quoted_at place rest) (bare_at place (byte ∷ rest)) (item_within rest (byte ∷ rest) (quoted_at place rest) (omega arith) (quoted_no_longer place rest)) (bare_no_longer place (byte ∷ rest))
 
-abbrev StepShorter : List ℕ → Result (Span × Bool × List ℕ) LexFault → Type 0
+abbrev pub StepShorter : List ℕ → Result (Span × Bool × List ℕ) LexFault → Type 0
 StepShorter bytes (Err f) = Unit {0}
 StepShorter bytes (Ok r) = length r.2 < length bytes
 
@@ -86,7 +86,7 @@ then_shorter place bytes (Ok r) h =
     let gone : length (blanks_off r.1) ≤ length r.1 = blanks_dropped r.1 in
     step_within (blanks_off r.1) bytes (list_more place r.0 (blanks_off r.1)) (omega arith) (more_shorter place r.0 (blanks_off r.1))
 
-step_shorter : (place : LinePlace) (bytes : List ℕ) → StepShorter bytes (list_step place bytes)
+pub step_shorter : (place : LinePlace) (bytes : List ℕ) → StepShorter bytes (list_step place bytes)
 unfolding list_step
 step_shorter place bytes = then_shorter place bytes (item_at place bytes) (item_no_longer place bytes)
 

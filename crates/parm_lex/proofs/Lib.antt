@@ -12,3 +12,4 @@ pub mod Spelled
 pub mod Read
 pub mod Wanted
 pub mod Counts
+pub mod Readings

@@ -127,3 +127,11 @@ SizedFile false bytes read = ShortFile bytes read
 -- the definitions of a file, or its first fault
 abbrev pub FileAt : List ℕ → Result (List ParmLine) LexFault → Type 0
 FileAt bytes read = SizedFile (nat_lt 1048576 (length bytes)) bytes read
+
+-- a file has one reading
+abbrev pub FilesAreReadOnce : Type 0
+FilesAreReadOnce = (bytes : List ℕ) (a b : Result (List ParmLine) LexFault) → FileAt bytes a → FileAt bytes b → a ≡ b
+
+-- a file has a reading
+abbrev pub FilesAreRead : Type 0
+FilesAreRead = (bytes : List ℕ) → (read : Result (List ParmLine) LexFault) × FileAt bytes read

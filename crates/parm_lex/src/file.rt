@@ -2,7 +2,7 @@
 ghost use Rattle.std.specs.Prelude.{◌≡◌, ◌≤◌, ◌<◌, ◌++◌, ℕ, List, Result, [], IfOk, IfErr, OnOk, length};
 ghost use Rattle.std.specs.Option.{option_to_list};
 ghost use Rattle.parm_lex.specs.Grammar.{GivesBy};
-ghost use Rattle.parm_lex.specs.Lines.{FileAt, LinesAt};
+ghost use Rattle.parm_lex.specs.Lines.{FileAt, FilesAreRead, FilesAreReadOnce, LinesAt};
 ghost use Rattle.parm_lex.specs.Spans.{AreLinesOf};
 ghost use Rattle.parm_lex.specs.declared.fault.LexFault.{LexFault};
 ghost use Rattle.parm_lex.specs.declared.fault.LexRefused.TheVariants.{NoMemory};
@@ -79,3 +79,9 @@ pub fn lines(alloc: Global, bytes: &[u8]) -> Result<Vec<ParmLine>, LexRefused>
 {
     read_file(alloc, bytes)
 }
+
+/// A file has one reading and always one: its definitions, or its first fault.
+pub fn file_is_read_once()
+    ensures one { FilesAreReadOnce }
+    ensures some { FilesAreRead }
+{}

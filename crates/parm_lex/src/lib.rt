@@ -2,8 +2,9 @@
 //!
 //! It promises that `lines` reads exactly what the grammar says, with the fault at which a reader from the left stops in the first
 //! faulty line (`found`), that the grammar says nothing else of the file (`only`), and that what is read are pieces of printable text
-//! of the file (`spans`). The lines that are accepted are exactly those that the grammar spells, in whatever order a reader goes
-//! (`lines_are_spelled`, `spelled_lines_are_read`). It stands on std alone.
+//! of the file (`spans`). A file has exactly one reading (`file_is_read_once`). One line, where it lies in the file, is read exactly where
+//! the grammar in one piece spells it, in whatever order a reader goes (`lines_are_spelled`, `spelled_lines_are_read`). How a file is cut
+//! into lines and how one continues another is said by definition alone (`cut_at`, `CutStep`). It stands on std alone.
 #![tactic(auto)]
 
 mod bytes;
@@ -16,7 +17,7 @@ mod span;
 mod spelling;
 
 pub use fault::{LexFault, LexRefused, LexWhy};
-pub use file::lines;
+pub use file::{file_is_read_once, lines};
 pub use line::ParmLine;
 pub use part::{ParmPart, Parts};
 pub use span::{Span, Spans};

@@ -7,7 +7,7 @@ pub fn lines_are_spelled()
     ensures { LinesAreSpelled }
 {}
 
-/// What the grammar spells is read, so the lines that are accepted are exactly those that it spells.
+/// What the grammar spells is read, so a line that lies in a file is accepted exactly where it spells the line.
 pub fn spelled_lines_are_read()
     ensures { SpelledLinesAreRead }
 {}

@@ -1,12 +1,12 @@
 // Names with numbers behind them.
-ghost use Rattle.std.specs.Prelude.{◌≡◌, ◌≤◌, ◌+◌, ◌++◌, IfOk, decimal};
+ghost use Rattle.std.specs.Prelude.{◌≡◌, ◌++◌, IfOk, decimal};
 ghost use Rattle.wildcards.specs.Numbered.{names_of};
 
 use std::alloc::{AllocError, Global};
 use vd_outside::{NoMemory, Text};
 
 /// A name with a number behind it.
-fn numbered(alloc: Global, name: &Text, number: u32) -> Result<Text, AllocError>
+fn numbered(alloc: Global, name: &Text, number: u128) -> Result<Text, AllocError>
     ensures { IfOk result (λ text. text ≡ name.now ++ decimal number) }
 {
     Ok(Text::of(format!(in alloc; "{name}{number}")?))
@@ -15,15 +15,14 @@ fn numbered(alloc: Global, name: &Text, number: u32) -> Result<Text, AllocError>
 fn numbered_names(
     alloc: Global,
     name: &Text,
-    first: u32,
-    many: u32,
+    first: u64,
+    many: u64,
 ) -> Result<Vec<Text>, AllocError>
-    requires { first + many ≤ 1000000 }
     ensures { IfOk result (λ names. names.items ≡ names_of name.now first many) }
 {
     let mut names = Vec::new(alloc);
     for i in 0..many {
-        names.push(numbered(alloc, name, first + i)?)?;
+        names.push(numbered(alloc, name, first as u128 + i as u128)?)?;
     }
     Ok(names)
 }
@@ -32,10 +31,9 @@ fn numbered_names(
 pub fn expand_count(
     alloc: Global,
     name: &Text,
-    first: u32,
-    many: u32,
+    first: u64,
+    many: u64,
 ) -> Result<Vec<Text>, NoMemory>
-    requires { first + many ≤ 1000000 }
     ensures { IfOk result (λ names. names.items ≡ names_of name.now first many) }
 {
     Ok(numbered_names(alloc, name, first, many)?)

@@ -1,0 +1,17 @@
+pub mod AllFit
+pub mod FileFits
+pub mod KindsFit
+pub mod Loops
+pub mod LoopsFit
+pub mod Loose
+pub mod MadeFit
+pub mod NamesApart
+pub mod OwnElse
+pub mod PartsFit
+pub mod RecordsFit
+pub mod Steps
+pub mod WholeChecks
+pub mod Shapes
+pub mod Shown
+pub mod Accepted
+pub mod Back

@@ -1,0 +1,14 @@
+pub mod Counts
+pub mod Lists
+pub mod BlockSizes
+pub mod Steps
+pub mod DraftLaws
+pub mod LoopRows
+pub mod Crowds
+pub mod StoreLaws
+pub mod RunLaws
+pub mod ShareLaws
+pub mod ReadyLaws
+pub mod TransferLaws
+pub mod WorkerLaws
+pub mod RunValid

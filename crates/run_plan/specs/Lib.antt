@@ -1,0 +1,11 @@
+pub mod Outcomes
+pub mod Hosts
+pub mod Stores
+pub mod Workloads
+pub mod Loops
+pub mod Weights
+pub mod Runs
+pub mod Drafts
+pub mod Workers
+pub mod Sizes
+pub mod Plans
