@@ -58,7 +58,7 @@ module _ {P B : Type 0} (pass_seen : P → PassSeen) (book_seen : B → BookSeen
     pub code : lane r (b % 4) ≡ code_of entry
     pub good : entry ≢ Bad
     pub pass : P
-    pub seat : m' ≡ (with_hand (claimed m.0 b entry) (b + 1), (b, slot.Pass pass) ∷ m.1)
+    pub seat : m' ≡ (with_hand (claimed m.0 b r entry) (b + 1), (b, slot.Pass pass) ∷ m.1)
     pub ok : IsPassFor m.0.made b entry (pass_seen pass)
     pub lent : LentAs m.0 b entry
 

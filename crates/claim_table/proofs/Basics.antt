@@ -55,47 +55,47 @@ only_one g (x ∷ []) zero v one e = omega (arith, ap g (some-injective x v e))
 only_one g (x ∷ []) (suc id) v one e = absurd (some-ne-none v (sym e))
 only_one g (x ∷ y ∷ xs) id v one e = absurd (omega arith)
 
-pub refused_no : (word b k : ℕ) → answered k (try b (answer.Busy word)) ≡ 0
+pub refused_no : (word b k : ℕ) → answered k (try b word answer.Busy) ≡ 0
 refused_no word b k = dite (ℕ_discrete b k) (λ e. ap (λ t. cond t 0 0) (eq-eqb b k e)) (λ ne. ap (λ t. cond t 0 0) (ne_eqb b k ne))
 
-pub refused_else : (word k b : ℕ) → k ≢ b → refused k (try b (answer.Busy word)) ≡ 0
+pub refused_else : (word k b : ℕ) → k ≢ b → refused k (try b word answer.Busy) ≡ 0
 refused_else word k b ne = ap (λ t. cond t 1 0) (ne_eqb b k (λ e. ne (sym e)))
 
-pub as_no : (word b k code : ℕ) → answered_as k code (try b (answer.Busy word)) ≡ 0
+pub as_no : (word b k code : ℕ) → answered_as k code (try b word answer.Busy) ≡ 0
 as_no word b k code = dite (ℕ_discrete b k) (λ e. ap (λ t. cond t 0 0) (eq-eqb b k e)) (λ ne. ap (λ t. cond t 0 0) (ne_eqb b k ne))
 
-pub refused_as_else : (word k b code : ℕ) → k ≢ b → refused_as k code (try b (answer.Busy word)) ≡ 0
-refused_as_else word k b code ne = ap (λ t. cond t (busy_with k code (answer.Busy word)) 0) (ne_eqb b k (λ e. ne (sym e)))
+pub refused_as_else : (word k b code : ℕ) → k ≢ b → refused_as k code (try b word answer.Busy) ≡ 0
+refused_as_else word k b code ne = ap (λ t. cond t (busy_with k code word answer.Busy) 0) (ne_eqb b k (λ e. ne (sym e)))
 
-pub refused_as_other : (word b code : ℕ) → lane word (b % 4) ≢ code + 2 ^ 15 → refused_as b code (try b (answer.Busy word)) ≡ 0
-refused_as_other word b code ne = ap (λ t. cond t (busy_with b code (answer.Busy word)) 0) (eq-eqb b b refl) ∙ ap (λ t. cond t 1 0) (ne_eqb (lane word (b % 4)) (code + 2 ^ 15) ne)
+pub refused_as_other : (word b code : ℕ) → lane word (b % 4) ≢ code + 2 ^ 15 → refused_as b code (try b word answer.Busy) ≡ 0
+refused_as_other word b code ne = ap (λ t. cond t (busy_with b code word answer.Busy) 0) (eq-eqb b b refl) ∙ ap (λ t. cond t 1 0) (ne_eqb (lane word (b % 4)) (code + 2 ^ 15) ne)
 
-free_with : (k code : ℕ) (e : Entry) → busy_with k code (answer_of e) ≡ 0
-free_with k code (Settled x) = refl
-free_with k code (Pending x n) = refl
-free_with k code Bad = refl
+free_with : (k code word : ℕ) (e : Entry) → busy_with k code word (answer_of e) ≡ 0
+free_with k code word (Settled x) = refl
+free_with k code word (Pending x n) = refl
+free_with k code word Bad = refl
 
-pub free_as : (k b code : ℕ) (e : Entry) → refused_as k code (try b (answer_of e)) ≡ 0
-free_as k b code e = ap (λ (x : ℕ). cond (eqb b k) x 0) (free_with k code e) ∙ dite (ℕ_discrete b k) (λ q. ap (λ t. cond t 0 0) (eq-eqb b k q)) (λ ne. ap (λ t. cond t 0 0) (ne_eqb b k ne))
+pub free_as : (word k b code : ℕ) (e : Entry) → refused_as k code (try b word (answer_of e)) ≡ 0
+free_as word k b code e = ap (λ (x : ℕ). cond (eqb b k) x 0) (free_with k code word e) ∙ dite (ℕ_discrete b k) (λ q. ap (λ t. cond t 0 0) (eq-eqb b k q)) (λ ne. ap (λ t. cond t 0 0) (ne_eqb b k ne))
 
 says_with : (e : Entry) → other_with (code_of e) (answer_of e) ≡ 1
 says_with (Settled k) = ap (λ t. cond t 1 0) (eq-eqb (code_of (Settled k)) (code_of (Settled k)) refl)
 says_with (Pending k n) = ap (λ t. cond t 1 0) (eq-eqb (code_of (Pending k n)) (code_of (Pending k n)) refl)
 says_with Bad = ap (λ t. cond t 1 0) (eq-eqb (code_of Bad) (code_of Bad) refl)
 
-pub said_yes : (b : ℕ) (e : Entry) → answered_as b (code_of e) (try b (answer_of e)) ≡ 1
-said_yes b e = ap (λ t. cond t (other_with (code_of e) (answer_of e)) 0) (eq-eqb b b refl) ∙ says_with e
+pub said_yes : (word b : ℕ) (e : Entry) → answered_as b (code_of e) (try b word (answer_of e)) ≡ 1
+said_yes word b e = ap (λ t. cond t (other_with (code_of e) (answer_of e)) 0) (eq-eqb b b refl) ∙ says_with e
 
 answer_free : (e : Entry) → is_busy (answer_of e) ≡ 0
 answer_free (Settled k) = refl
 answer_free (Pending k n) = refl
 answer_free Bad = refl
 
-pub answered_yes : (b : ℕ) (e : Entry) → answered b (try b (answer_of e)) ≡ 1
-answered_yes b e = ap (λ t. cond t (cond (eqb (is_busy (answer_of e)) 0) 1 0) 0) (eq-eqb b b refl) ∙ ap (λ (x : ℕ). cond (eqb x 0) 1 0) (answer_free e)
+pub answered_yes : (word b : ℕ) (e : Entry) → answered b (try b word (answer_of e)) ≡ 1
+answered_yes word b e = ap (λ t. cond t (cond (eqb (is_busy (answer_of e)) 0) 1 0) 0) (eq-eqb b b refl) ∙ ap (λ (x : ℕ). cond (eqb x 0) 1 0) (answer_free e)
 
-pub busy_no : (k b : ℕ) (e : Entry) → refused k (try b (answer_of e)) ≡ 0
-busy_no k b e = ap (λ (x : ℕ). cond (eqb b k) x 0) (answer_free e) ∙ dite (ℕ_discrete b k) (λ q. ap (λ t. cond t 0 0) (eq-eqb b k q)) (λ ne. ap (λ t. cond t 0 0) (ne_eqb b k ne))
+pub busy_no : (word k b : ℕ) (e : Entry) → refused k (try b word (answer_of e)) ≡ 0
+busy_no word k b e = ap (λ (x : ℕ). cond (eqb b k) x 0) (answer_free e) ∙ dite (ℕ_discrete b k) (λ q. ap (λ t. cond t 0 0) (eq-eqb b k q)) (λ ne. ap (λ t. cond t 0 0) (ne_eqb b k ne))
 
 pub alive : (b : Bool) → (b ≡ true → ⊥) → b ≡ false
 alive true f = absurd (f refl)
@@ -142,11 +142,11 @@ same_head i i' rest rest' e = cc
 pub some_same : {A : Type 0} (x y : A) → Rattle.std.proofs.Common.Some x ≡ Rattle.std.proofs.Common.Some y → y ≡ x
 some_same x y e = cc
 
-pub found_none : (k b : ℕ) (a : Answer) → bad_answer a ≡ 0 → found_bad k (try b a) ≡ 0
-found_none k b a e = ap (λ (x : ℕ). cond (eqb b k) x 0) e ∙ dite (ℕ_discrete b k) (λ q. ap (λ t. cond t 0 0) (eq-eqb b k q)) (λ ne. ap (λ t. cond t 0 0) (ne_eqb b k ne))
+pub found_none : (word k b : ℕ) (a : Answer) → bad_answer a ≡ 0 → found_bad k (try b word a) ≡ 0
+found_none word k b a e = ap (λ (x : ℕ). cond (eqb b k) x 0) e ∙ dite (ℕ_discrete b k) (λ q. ap (λ t. cond t 0 0) (eq-eqb b k q)) (λ ne. ap (λ t. cond t 0 0) (ne_eqb b k ne))
 
-pub found_else : (k b : ℕ) (a : Answer) → k ≢ b → found_bad k (try b a) ≡ 0
-found_else k b a ne = ap (λ t. cond t (bad_answer a) 0) (ne_eqb b k (λ e. ne (sym e)))
+pub found_else : (word k b : ℕ) (a : Answer) → k ≢ b → found_bad k (try b word a) ≡ 0
+found_else word k b a ne = ap (λ t. cond t (bad_answer a) 0) (ne_eqb b k (λ e. ne (sym e)))
 
 pub good_answer : (e : Entry) → e ≢ Bad → bad_answer (answer_of e) ≡ 0
 good_answer (Settled k) ne = refl

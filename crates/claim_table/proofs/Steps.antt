@@ -100,7 +100,7 @@ module _ {P B : Type 0} (pass_seen : P → PassSeen) (book_seen : B → BookSeen
               (omega (arith, total-set (other_at b) s.views id v w me, term_le (other_at b) s.views holder.0 holder.1 holder.2, stood, refused_no wd b b)))
               (λ ne. omega (arith, total-set (busy_at j) s.views id v w me, total-set (other_at j) s.views id v w me, a.met j, refused_else wd j b ne, refused_no wd b j)))
               (λ single. absurd (omega (arith, only_one (holds b) s.views id v single me)))
-              (λ j. omega (arith, found_none j b (answer.Busy wd) refl))
+              (λ j. omega (arith, found_none wd j b answer.Busy refl))
               (λ j code h. dite (ℕ_discrete j b)
               (λ (e : j ≡ b). subst (λ (y : ℕ). 0 < total (other_as y code) (set s.views id w)) (sym e)
               (dite (ℕ_discrete code (code_of them.0.was))
@@ -110,7 +110,7 @@ module _ {P B : Type 0} (pass_seen : P → PassSeen) (book_seen : B → BookSeen
               let h' : 0 < total (busy_as b code) (set s.views id w) = subst (λ (y : ℕ). 0 < total (busy_as y code) (set s.views id w)) e h in
               omega (arith, h', total-set (busy_as b code) s.views id v w me, total-set (other_as b code) s.views id v w me, a.found b code, refused_as_other wd b code (λ z. far (omega (arith, z, lies))), as_no wd b b code))))
               (λ (ne : j ≢ b). omega (arith, h, total-set (busy_as j code) s.views id v w me, total-set (other_as j code) s.views id v w me, a.found j code, refused_as_else wd j b code ne, as_no wd b j code)));
-          counts = counts_kept made o.book s.views o.counts id v w me refl refl refl refl refl refl (λ j. inl (omega (arith, found_none j b (answer.Busy wd) refl)));
+          counts = counts_kept made o.book s.views o.counts id v w me refl refl refl refl refl refl (λ j. inl (omega (arith, found_none wd j b answer.Busy refl)));
           slots = slots_set pass_seen book_seen made o.book s.words W s.homes s.homes s.views k id w refl (λ j h q. k.home j h (subst (λ (y : ℕ). y < 2 ^ 15) (same j) q)) (λ j u _. k.parked j u) mine;
           lock = lock_kept pass_seen book_seen made o.book s.words W s.homes s.homes s.views l id v w me zero-word refl refl (λ h. h) refl;
         },
@@ -125,31 +125,31 @@ module _ {P B : Type 0} (pass_seen : P → PassSeen) (book_seen : B → BookSeen
       let lent : LentAs v b e = λ f has. ap (λ (z : BookSeen). now_at z b) (l.loan id v f me has).0 in
       let apart : (j : ℕ) (u : View) → j ≢ id → get_elem? s.views j ≡ some u → holds b u ≡ 0 = λ j u _ at-j. omega (arith, term_le (holds b) s.views j u at-j) in
       let home = k.home b near (omega arith) in
-      let claims' : (w : View) → w.held ≡ (claimed v b e).held → w.mine ≡ (claimed v b e).mine → w.parts ≡ v.parts → w.spent ≡ v.spent → w.made ≡ v.made → (0 < total (bad_at b) (set s.views id w) → e ≡ Bad) → Claims made o.book W (set s.views id w)
+      let claims' : (w : View) → w.held ≡ (claimed v b wd e).held → w.mine ≡ (claimed v b wd e).mine → w.parts ≡ v.parts → w.spent ≡ v.spent → w.made ≡ v.made → (0 < total (bad_at b) (set s.views id w) → e ≡ Bad) → Claims made o.book W (set s.views id w)
       = λ w e₁ e₂ e₃ e₄ e₅ met-bad. moved made o.book s.words s.views a id v w W me long b near there (omega (arith, at_yes b (item b e e false) refl, ap (total (at b)) e₁)) (λ j ne. omega (arith, at_no j (item b e e false) (λ q. ne (sym q)), ap (total (at j)) e₁)) (λ l. absurd (omega arith)) apart
       (subst (λ (z : List Item × List Try × ℕ × Bool × Made). Fits made o.book W z.0 z.1 z.2 z.3 z.4) (λ q. (sym e₁ q, sym e₂ q, sym e₃ q, sym e₄ q, sym e₅ q))
       record {
         held = (record { word = set-bit ∙ ap (λ (j : ℕ). j + 2 ^ 15) lies; owned = refl; coded = coded; safe = λ q. absurd (false≢true q) }, (fits_apart made o.book s.words W b v fresh there was).held);
         falls = (above, was.falls);
         few = omega arith;
-        stands = (omega (arith, answered_yes b e), each_map (λ i. 0 < other_at i.block v) (λ i. 0 < other_at i.block (claimed v b e)) v.held (λ i h. omega arith) was.stands);
-        said = (omega (arith, said_yes b e), each_map (λ i. 0 < other_as i.block (code_of i.was) v) (λ i. 0 < other_as i.block (code_of i.was) (claimed v b e)) v.held (λ i h. omega arith) was.said);
+        stands = (omega (arith, answered_yes wd b e), each_map (λ i. 0 < other_at i.block v) (λ i. 0 < other_at i.block (claimed v b wd e)) v.held (λ i h. omega arith) was.stands);
+        said = (omega (arith, said_yes wd b e), each_map (λ i. 0 < other_as i.block (code_of i.was) v) (λ i. 0 < other_as i.block (code_of i.was) (claimed v b wd e)) v.held (λ i h. omega arith) was.said);
         live = was.live;
         dead = λ q. absurd (false≢true (sym live ∙ q));
       })
-      e₃ (λ j. omega (arith, busy_no j b e, ap (total (refused j)) e₂)) (λ j. omega (arith, ap (total (answered j)) e₂))
-      (λ j ne. omega (arith, found_else j b (answer_of e) ne, ap (total (found_bad j)) e₂)) (λ some-bad. omega (arith, set-bit, lies, ap code_of (met-bad some-bad)))
-      (λ j code. omega (arith, free_as j b code e, ap (total (refused_as j code)) e₂)) (λ j code. omega (arith, ap (total (answered_as j code)) e₂)) in
+      e₃ (λ j. omega (arith, busy_no wd j b e, ap (total (refused j)) e₂)) (λ j. omega (arith, ap (total (answered j)) e₂))
+      (λ j ne. omega (arith, found_else wd j b (answer_of e) ne, ap (total (found_bad j)) e₂)) (λ some-bad. omega (arith, set-bit, lies, ap code_of (met-bad some-bad)))
+      (λ j code. omega (arith, free_as wd j b code e, ap (total (refused_as j code)) e₂)) (λ j code. omega (arith, ap (total (answered_as j code)) e₂)) in
       ⊎_elim
       (λ (bad : e ≡ Bad).
-      let w : View = claimed v b e in (
+      let w : View = claimed v b wd e in (
         w,
         keeps,
         tt,
         record {
           book = o.book;
           claims = claims' w refl refl refl refl refl (λ _. bad);
-          counts = counts_kept made o.book s.views o.counts id v w me refl refl refl refl refl refl (λ j. dite (ℕ_discrete j b) (λ (q : j ≡ b). inr (ap (now_at o.book) q ∙ bad)) (λ (q : j ≢ b). inl (omega (arith, found_else j b (answer_of e) q))));
+          counts = counts_kept made o.book s.views o.counts id v w me refl refl refl refl refl refl (λ j. dite (ℕ_discrete j b) (λ (q : j ≡ b). inr (ap (now_at o.book) q ∙ bad)) (λ (q : j ≢ b). inl (omega (arith, found_else wd j b (answer_of e) q))));
           slots = slots_set pass_seen book_seen made o.book s.words W s.homes s.homes s.views k id w refl
               (λ j h q. dite (ℕ_discrete j b) (λ z. absurd (omega (arith, subst (λ (y : ℕ). code_at W y < 2 ^ 15) z q))) (λ ne. k.home j h (subst (λ (y : ℕ). y < 2 ^ 15) (there j ne) q)))
               (λ j u _. k.parked j u) (((λ _. home), λ good. absurd (good bad)), mine);
@@ -158,15 +158,15 @@ module _ {P B : Type 0} (pass_seen : P → PassSeen) (book_seen : B → BookSeen
         tell (w, m.1) ((λ z. absurd (omega arith)), λ _. (e, coded, lies, (λ _. refl), (λ good. absurd (good bad)), lent)),
       ))
       (λ (good : e ≢ Bad).
-      let w : View = with_hand (claimed v b e) (b + 1) in let p : P = home.0 in
+      let w : View = with_hand (claimed v b wd e) (b + 1) in let p : P = home.0 in
       let hs : List (maybe.Option (Slot P B)) = set s.homes b none in (
         w,
         takes b (slot.Pass p),
         home.1,
         record {
           book = o.book;
-          claims = claims' w refl refl refl refl refl (λ some-bad. o.counts.bad_met b (omega (arith, some-bad, total-set (bad_at b) s.views id v w me, found_none b b (answer_of e) (good_answer e good))));
-          counts = counts_kept made o.book s.views o.counts id v w me refl refl refl refl refl refl (λ j. inl (omega (arith, found_none j b (answer_of e) (good_answer e good))));
+          claims = claims' w refl refl refl refl refl (λ some-bad. o.counts.bad_met b (omega (arith, some-bad, total-set (bad_at b) s.views id v w me, found_none wd b b (answer_of e) (good_answer e good))));
+          counts = counts_kept made o.book s.views o.counts id v w me refl refl refl refl refl refl (λ j. inl (omega (arith, found_none wd j b (answer_of e) (good_answer e good))));
           slots = slots_set pass_seen book_seen made o.book s.words W s.homes hs s.views k id w (length-set s.homes b none)
               (λ j h q. dite (ℕ_discrete j b) (λ z. absurd (omega (arith, subst (λ (y : ℕ). code_at W y < 2 ^ 15) z q)))
               (λ ne. pass_else pass_seen book_seen made o.book s.homes j b none ne (k.home j h (subst (λ (y : ℕ). y < 2 ^ 15) (there j ne) q))))

@@ -66,8 +66,8 @@ module _ {P B : Type 0} (pass_seen : P → PassSeen) (book_seen : B → BookSeen
   Claiming b word x m m' =
       (2 ^ 15 ≤ x → (m' ≡ (turned_away m.0 b word, m.1)) × (m.0.parts < parts_in m.0.made) × ((e : Entry) × IsCoded e × (x ≡ code_of e + 2 ^ 15)))
       × (x < 2 ^ 15 → (e : Entry) × IsCoded e × (x ≡ code_of e)
-      × (e ≡ Bad → m' ≡ (claimed m.0 b e, m.1))
-      × (e ≢ Bad → (pass : P) × (m' ≡ (with_hand (claimed m.0 b e) (b + 1), (b, slot.Pass pass) ∷ m.1)) × IsPassFor m.0.made b e (pass_seen pass))
+      × (e ≡ Bad → m' ≡ (claimed m.0 b word e, m.1))
+      × (e ≢ Bad → (pass : P) × (m' ≡ (with_hand (claimed m.0 b word e) (b + 1), (b, slot.Pass pass) ∷ m.1)) × IsPassFor m.0.made b e (pass_seen pass))
       × LentAs m.0 b e)
 
   abbrev pub claims : Step (Slot P B) → Sat P B → ℕ → Sat P B → Type 0

@@ -7,17 +7,18 @@ use Rattle.key_state.specs.declared.entry.Entry.TheVariants.{Bad}
 use Rattle.claim_table.specs.Sums.{Each}
 use Rattle.claim_table.specs.Views.{parts_in, LentAs, claimed, turned_away, met_bad, released}
 use Rattle.claim_table.specs.Passes.{IsPassFor}
-use Rattle.claim_table.specs.Seats.{IsBusyIn}
+use Rattle.claim_table.specs.Seats.{IsBusyIn, IsFreeIn}
 use Rattle.claim_table.specs.declared.view.Item.{Item}
 use Rattle.claim_table.specs.declared.view.View.{View}
 use Rattle.claim_table.specs.declared.view.Made.{Made}
 use Rattle.claim_table.specs.declared.run.RunClaim.{RunClaim}
 use Rattle.claim_table.specs.declared.run.RunClaim.TheVariants as run_claim
 
--- the view after blocks were claimed, from the first on, with these entries
-abbrev pub claimed_all : View → ℕ → List Entry → View
-claimed_all view first [] = view
-claimed_all view first (entry ∷ entries) = claimed_all (claimed view first entry) (first + 1) entries
+-- The view after is the one before with claims of blocks from the first on, each of which found a word in which the block had this entry
+-- and wasn't busy.
+abbrev pub HasClaimed : View → ℕ → List Entry → View → Type 0
+HasClaimed before first [] after = after ≡ before
+HasClaimed before first (entry ∷ entries) after = (word : ℕ) × IsFreeIn word first entry × HasClaimed (claimed before first word entry) (first + 1) entries after
 
 -- The newest of the held items are blocks from the first on with these entries in the book, and the others are left.
 abbrev pub AreNewest : ℕ → List Entry → List Item → List Item → Type 0
@@ -46,25 +47,31 @@ RunAnswers pass_seen before first many (run_claim.Claimed run) after =
     (run.first.0 ≡ first)
     × (length run.entries.items ≡ many)
     × Each CanBeHad run.entries.items
-    × (after ≡ claimed_all before first run.entries.items)
+    × HasClaimed before first run.entries.items after
     × ArePassesFor pass_seen before.made first run.entries.items run.passes.items
     × AreLentAs before first run.entries.items
 RunAnswers pass_seen before first many (run_claim.Busy room block word) after =
     (had : List Entry)
+    × (until : View)
+    × HasClaimed before first had until
     × Each CanBeHad had
     × (length had < many)
     × (block.0 ≡ first + length had)
     × IsBusyIn word block.0
-    × (after ≡ released (turned_away (claimed_all before first had) block.0 word) before.held)
+    × (after ≡ released (turned_away until block.0 word) before.held)
     × (before.parts < parts_in before.made)
     × AreLentAs before first had
     × (room.entries.items ≡ [])
 RunAnswers pass_seen before first many (run_claim.BadBlock room block) after =
     (had : List Entry)
+    × (until : View)
+    × (word : ℕ)
+    × HasClaimed before first had until
     × Each CanBeHad had
     × (length had < many)
     × (block.0 ≡ first + length had)
-    × (after ≡ released (met_bad (claimed_all before first had) block.0) before.held)
+    × IsFreeIn word block.0 Bad
+    × (after ≡ released (met_bad until block.0 word) before.held)
     × LentAs before block.0 Bad
     × AreLentAs before first had
     × (room.entries.items ≡ [])

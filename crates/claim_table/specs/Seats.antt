@@ -62,20 +62,30 @@ AtRest id store place =
 abbrev pub IsBusyIn : ℕ → ℕ → Type 0
 IsBusyIn word block = (entry : Entry) × IsCoded entry × (lane word (block % 4) ≡ code_of entry + 2 ^ 15)
 
--- What a claim answers, by the view before and after it.
+-- The word has this entry of the block, and that it isn't busy.
+abbrev pub IsFreeIn : ℕ → ℕ → Entry → Type 0
+IsFreeIn word block entry = IsCoded entry × (lane word (block % 4) ≡ code_of entry)
+
+-- What a claim answers, by the view before and after it, which notes the word that was found.
 abbrev pub Answers : {P : Type 0} → (P → PassSeen) → View → ℕ → Claim P → View → Type 0
 Answers pass_seen before block (claim.Claimed held) after =
-    (held.block.0 ≡ block)
-    × IsEntry held.entry
+    (word : ℕ)
+    × IsFreeIn word block held.entry
     × (held.entry ≢ Bad)
-    × (after ≡ claimed before block held.entry)
+    × (after ≡ claimed before block word held.entry)
+    × (held.block.0 ≡ block)
+    × IsEntry held.entry
     × IsPassFor before.made block held.entry (pass_seen held.pass)
     × LentAs before block held.entry
 Answers pass_seen before block (claim.Busy word) after =
     IsBusyIn word block
     × (after ≡ turned_away before block word)
     × (before.parts < parts_in before.made)
-Answers pass_seen before block claim.BadBlock after = (after ≡ met_bad before block) × LentAs before block Bad
+Answers pass_seen before block claim.BadBlock after =
+    (word : ℕ)
+    × IsFreeIn word block Bad
+    × (after ≡ met_bad before block word)
+    × LentAs before block Bad
 
 -- The block is the newest that the view holds, and this is its entry in the book as the seat knows it.
 abbrev pub IsNewest : View → ℕ → Entry → Type 0

@@ -33,8 +33,8 @@ synced_at book block = entry_at book.synced block
 abbrev pub item : ℕ → Entry → Entry → Bool → Item
 item block was own safe = record { block = block; was = was; own = own; safe = safe }
 
-abbrev pub try : ℕ → Answer → Try
-try block answer = record { block = block; answer = answer }
+abbrev pub try : ℕ → ℕ → Answer → Try
+try block word answer = record { block = block; word = word; answer = answer }
 
 -- the answer to a claim of a block that isn't busy
 abbrev pub answer_of : Entry → Answer
@@ -42,7 +42,7 @@ answer_of Bad = answer.Bad
 answer_of entry = answer.Claimed entry
 
 abbrev pub is_busy : Answer → ℕ
-is_busy (answer.Busy word) = 1
+is_busy answer.Busy = 1
 is_busy _ = 0
 
 abbrev pub is_bad : Answer → ℕ
@@ -76,17 +76,17 @@ abbrev pub bad_at : ℕ → View → ℕ
 bad_at block view = total (found_bad block) view.mine
 
 -- one for a busy answer whose word has this code of an entry for the block, and for another answer with an entry of this code
-abbrev pub busy_with : ℕ → ℕ → Answer → ℕ
-busy_with block code (answer.Busy word) = cond (lane word (block % 4) == code + 2 ^ 15) 1 0
-busy_with block code _ = 0
+abbrev pub busy_with : ℕ → ℕ → ℕ → Answer → ℕ
+busy_with block code word answer.Busy = cond (lane word (block % 4) == code + 2 ^ 15) 1 0
+busy_with block code word _ = 0
 
 abbrev pub other_with : ℕ → Answer → ℕ
 other_with code (answer.Claimed entry) = cond (code_of entry == code) 1 0
-other_with code (answer.Busy word) = 0
+other_with code answer.Busy = 0
 other_with code answer.Bad = cond (code_of Bad == code) 1 0
 
 abbrev pub refused_as : ℕ → ℕ → Try → ℕ
-refused_as block code t = cond (t.block == block) (busy_with block code t.answer) 0
+refused_as block code t = cond (t.block == block) (busy_with block code t.word t.answer) 0
 
 abbrev pub answered_as : ℕ → ℕ → Try → ℕ
 answered_as block code t = cond (t.block == block) (other_with code t.answer) 0
@@ -147,19 +147,19 @@ fresh made many = record {
 abbrev pub start : Made → View
 start made = fresh made (parts_in made)
 
--- the view after a claim that was had or met a bad block, and after one that met a busy one
-abbrev pub claimed : View → ℕ → Entry → View
-claimed view block entry = record view { held = item block entry entry false ∷ view.held; mine = try block (answer_of entry) ∷ view.mine }
+-- the view after a claim that was had or met a bad block in this word, and after one that met a busy one
+abbrev pub claimed : View → ℕ → ℕ → Entry → View
+claimed view block word entry = record view { held = item block entry entry false ∷ view.held; mine = try block word (answer_of entry) ∷ view.mine }
 
 abbrev pub turned_away : View → ℕ → ℕ → View
-turned_away view block word = record view { mine = try block (answer.Busy word) ∷ view.mine }
+turned_away view block word = record view { mine = try block word answer.Busy ∷ view.mine }
 
 -- after a release, with these blocks left
 abbrev pub released : View → List Item → View
 released view left = record view { held = left }
 
-abbrev pub met_bad : View → ℕ → View
-met_bad view block = released (claimed view block Bad) view.held
+abbrev pub met_bad : View → ℕ → ℕ → View
+met_bad view block word = released (claimed view block word Bad) view.held
 
 abbrev pub with_hand : View → ℕ → View
 with_hand view hand = record view { hand = hand }

@@ -19,10 +19,10 @@ use vd_arm::Pass;
 use vd_base::BlockNo;
 
 impl<P: Pass, B: Book> ClaimTable<P, B> {
-    /// Claims a block above those that the seat holds, of which there are fewer than 64. Busy: the word that was found had the block's
-    /// busy bit, so another seat holds it, with an entry that its claim was answered. BadBlock: that word had it bad and not busy. Else it
-    /// is the seat's, with its entry and its pass, until `release`. A seat that has all parts never meets Busy. To one that has the book,
-    /// a block is as that book has it.
+    /// Claims a block above those that the seat holds, of which there are fewer than 64. Busy, exactly where the word that was found had
+    /// the block's own busy bit: another seat holds it, with an entry that its claim was answered. BadBlock, exactly where that word had
+    /// it bad and not busy. Else it is the seat's, with the entry that the word has and its pass, until `release`. The view notes the
+    /// word. A seat that has all parts never meets Busy. To one that has the book, a block is as that book has it.
     ///
     /// One `fetch_or` is the claim: in the core's words a Claim of the block, free or busy, and no event where the block is bad. What
     /// follows it is none: the `exchange` and the load by which the pass comes out, and the `fetch_xor` that puts a bad block's bit back.

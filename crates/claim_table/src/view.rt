@@ -20,8 +20,8 @@ pub struct Item {
 pub enum Answer {
     /// The block was had, with this entry.
     Claimed(Entry),
-    /// Another seat held it; the word that was found.
-    Busy(u64),
+    /// Another seat held it.
+    Busy,
     /// It is corrupt.
     Bad,
 }
@@ -29,6 +29,8 @@ pub enum Answer {
 /// A claim that was made.
 pub struct Try {
     pub block: u32,
+    /// The word that it found.
+    pub word: u64,
     pub answer: Answer,
 }
 
@@ -48,7 +50,7 @@ pub struct View {
     pub held: LinkedList<Item>,
     /// The book as it was lent to this seat, where it has it.
     pub loan: Option<BookSeen>,
-    /// The claims that it made.
+    /// The claims that it made, each with the word that it found.
     pub mine: LinkedList<Try>,
     /// The blocks whose write it ended.
     pub wrote: LinkedList<u32>,
