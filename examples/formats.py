@@ -7,7 +7,6 @@ import re
 
 SECTOR = 512
 BLOCK = 4096
-PER_BLOCK = BLOCK // SECTOR
 PER_MAP = 256
 PER_LOG = 30
 LAST_KEY = 126
@@ -63,8 +62,8 @@ def image(name, address, key):
             + pattern(seed_of(address, key)))
 
 
-def block_image(name, block, key):
-    return b"".join(image(name, block * BLOCK + s * SECTOR, key) for s in range(PER_BLOCK))
+def block_image(name, block, key, size=BLOCK):
+    return b"".join(image(name, block * size + s * SECTOR, key) for s in range(size // SECTOR))
 
 
 def first_difference(name, address, key, sector):
@@ -149,7 +148,7 @@ def log_sector(version, epoch, place, records):
     return (head + b"".join(record_bytes(r) for r in records)).ljust(SECTOR, b"\0")
 
 
-def journal(version, epoch, name, entries, log_sectors, records):
+def journal(version, epoch, name, entries, log_sectors, records, size=BLOCK):
     """A journal whose live area is the epoch's, and whose other area is zeros."""
     blocks = len(entries)
     out = bytearray(SECTOR * end_of(blocks, log_sectors))
@@ -158,7 +157,7 @@ def journal(version, epoch, name, entries, log_sectors, records):
         out[at * SECTOR:(at + 1) * SECTOR] = sector
 
     area = epoch % 2
-    put(area, gate(version, epoch, name, blocks, BLOCK, log_sectors))
+    put(area, gate(version, epoch, name, blocks, size, log_sectors))
     for i in range(map_sectors(blocks)):
         put(map_at(area, i, blocks, log_sectors), map_sector(entries[i * PER_MAP:(i + 1) * PER_MAP]))
     for place in range(-(-len(records) // PER_LOG)):
@@ -251,7 +250,7 @@ def step(entry, record):
     return ("settled", 0)
 
 
-def recovered(disk, name, blocks):
+def recovered(disk, name, blocks, wanted=BLOCK):
     """(epoch, number of records, entries), or Refused."""
     have = len(disk) // SECTOR
 
@@ -263,9 +262,9 @@ def recovered(disk, name, blocks):
     if not valid:
         raise Refused(f"no journal {name}\n", 8)
     version, epoch, found, found_blocks, size, logs = max(valid, key=lambda g: g[1])
-    if (found, found_blocks, size) != (name, blocks, BLOCK):
+    if (found, found_blocks, size) != (name, blocks, wanted):
         raise Refused(f"mismatch found {found} blocks {found_blocks} of {size}"
-                      f" wanted {name} blocks {blocks} of {BLOCK}\n", 10)
+                      f" wanted {name} blocks {blocks} of {wanted}\n", 10)
 
     def damaged(sector, what, place):
         return Refused(f"damaged {name} sector {sector} {what} {place}\n", 9)
@@ -318,8 +317,8 @@ def verdict(name, block, entry, data):
     """("corrupt", sector, part), "clean", "old", "new" or "mixed"."""
     keys = entry[1:]
     old, new = True, True
-    for s in range(PER_BLOCK):
-        address = block * BLOCK + s * SECTOR
+    for s in range(len(data) // SECTOR):
+        address = block * len(data) + s * SECTOR
         sector = data[s * SECTOR:(s + 1) * SECTOR]
         is_old = matches(name, address, keys[0], sector)
         is_new = matches(name, address, keys[-1], sector)
@@ -332,8 +331,8 @@ def verdict(name, block, entry, data):
     return ("new",) if new else ("old",) if old else ("mixed",)
 
 
-def verified(name, entries, block_bytes):
-    """The lines of a store's verification, and the status. `block_bytes(b)` is what block b holds."""
+def verified(name, entries, block_bytes, size=BLOCK):
+    """The lines of a store's verification, and the status. `block_bytes(b)` is what block b holds, whose size is given."""
     lines = []
     read = corrupt = 0
     for block, entry in enumerate(entries):
@@ -344,7 +343,7 @@ def verified(name, entries, block_bytes):
         keys = " ".join(str(k) for k in entry[1:])
         if found[0] == "corrupt":
             corrupt += 1
-            address = block * BLOCK + found[1] * SECTOR
+            address = block * size + found[1] * SECTOR
             lines.append(f"corrupt {name} block {block} sector {found[1]} address {address} part {found[2]} keys {keys}\n")
         elif entry[0] == "pending":
             lines.append(f"pending {name} block {block} keys {keys} holds {found[0]}\n")
@@ -354,49 +353,8 @@ def verified(name, entries, block_bytes):
     return "".join(lines), 1 if corrupt else 0
 
 
-FORM = re.compile(
-    rb"sd=([A-Za-z0-9_]{1,8}),lun=([\x21\x23-\x27*+\-./0-9:-~]{1,1024}),size=([1-9][0-9]{0,5})k\n"
-    rb"wd=wd1,sd=\1,xfersize=4k\nrd=rd1,wd=wd1\n")
-
-
-def read_form(parameters):
-    """(name, path, blocks), where the parameter file has the form."""
-    found = FORM.fullmatch(parameters)
-    if not found:
-        return None
-    name, path, size = found[1].decode(), found[2].decode(), int(found[3])
-    if size < 4 or path == name + ".jnl":
-        return None
-    return name, path, size // 4
-
-
 def parameters(name, path, kib):
     return f"sd={name},lun={path},size={kib}k\nwd=wd1,sd={name},xfersize=4k\nrd=rd1,wd=wd1\n".encode()
-
-
-def report(parameter_bytes, disk, data):
-    """What `vdbench -jro -f FILE` prints and its status, where every file can be opened and read.
-
-    `disk` is the journal or None; `data` is what the data file holds, or None where it can't be opened."""
-    form = read_form(parameter_bytes)
-    if form is None:
-        return finish("parameter line 0: form not built\n", 3)
-    name, path, blocks = form
-    if disk is None:
-        return finish(f"cannot open {name}.jnl\n", 12)
-    try:
-        epoch, records, entries = recovered(disk, name, blocks)
-    except Refused as refused:
-        return finish(refused.line, refused.status)
-    text = f"journal {name} epoch {epoch} records {records}\n"
-    if data is None:
-        return finish(text + f"cannot open {path}\n", 12)
-
-    def block_bytes(block):
-        return data[block * BLOCK:(block + 1) * BLOCK].ljust(BLOCK, b"\0")
-
-    more, status = verified(name, entries, block_bytes)
-    return finish(text + more, status)
 
 
 def finish(text, status):

@@ -1,10 +1,10 @@
 #!/usr/bin/env python3
-"""Runs a built program over generated cases and compares its text and status with formats.py.
+"""Runs a built program over generated cases and compares its text and status with formats.py and plan.py.
 
     fuzz.py PROGRAM [--cases N] [--seed S] [--keep FOLDER]
 
-Each case has a parameter file, a journal and a data file in a folder of its own. The journal is sound, or damaged in one or two places;
-afterwards it must be as it was, and so must the data file, but for zeros up to the store's length. A case that fails is printed with
+Each case has a parameter file, journals and data files in a folder of its own. A journal is sound, or damaged in one or two places;
+afterwards it must be as it was, and so must a data file, but for zeros up to the store's length. A case that fails is printed with
 its number, and with --keep its files are left in FOLDER.
 """
 
@@ -19,28 +19,87 @@ import tempfile
 from pathlib import Path
 
 import formats as f
+import plan
 
 LETTERS = "abcdefghijklmnopqrstuvwxyzABCDEFGHIJKLMNOPQRSTUVWXYZ0123456789_"
 PATH_LETTERS = LETTERS + "!#$%&'*+-.:;<=>?@[\\]^`{|}~"
 
 
+class Store:
+    """What a case's parameter file says of a store."""
+
+    def __init__(self, name, path, journal, blocks, size):
+        self.name, self.path, self.journal, self.blocks, self.size = name, path, journal, blocks, size
+
+
 class Case:
     """One case: the words, the files, and what is wanted."""
 
-    def __init__(self, words, parameter_bytes, disk, data, openable=True):
+    def __init__(self, words, parameter_bytes, journals, contents):
         self.words = words
         self.parameters = parameter_bytes
-        self.disk = disk
-        self.data = data
-        self.openable = openable
+        self.journals = {path: bytes(disk) for path, disk in journals.items() if disk is not None}
+        self.contents = {path: data for path, data in contents.items() if data is not None}
+        self.stores = stores_of(parameter_bytes)
+
+    def held(self, path):
+        """What a data file holds, None where it can't be opened or made."""
+        return self.contents.get(path, b"") if can_be_made(path) else None
 
     def wanted(self):
-        if len(self.words) != 3 or self.words[:2] != ["-jro", "-f"] or self.words[2] in ("",) or self.words[2][0] == "-":
+        found = command(self.words)
+        if found is None:
             return f.finish(f.USAGE, 4)
         if self.parameters is None:
-            return f.finish(f"cannot open {self.words[2]}\n", 12)
-        data = (self.data or b"") if self.openable else None
-        return f.report(self.parameters, self.disk, data)
+            return f.finish(f"cannot open {found[1]}\n", 12)
+        if found[0] == "-s":
+            return plan.shown(self.parameters)
+        return plan.recovered_only(self.parameters, self.journals, self.held)
+
+
+def single(words, parameter_bytes, disk, data):
+    """A case of one store, whose files lie where its parameter file says."""
+    case = Case(words, parameter_bytes, {}, {})
+    for store in case.stores:
+        if disk is not None:
+            case.journals[store.journal] = bytes(disk)
+        if data is not None:
+            case.contents[store.path] = data
+    return case
+
+
+def stores_of(parameter_bytes):
+    if parameter_bytes is None:
+        return []
+    try:
+        return [Store(s.name, s.path, s.journal, s.blocks, s.block_size) for s in plan.plan_of(parameter_bytes)[0]]
+    except plan.Refused:
+        return []
+
+
+def can_be_made(path):
+    return "/" not in path and len(path) <= 255 and path not in (".", "..")
+
+
+def command(words):
+    """(mode, parameter file), where the words are a command that is built."""
+    options = {"mode": [], "check": [], "-f": [], "-o": []}
+    left = list(words)
+    while left:
+        word = left.pop(0)
+        if word in ("-s", "-j", "-jr", "-jro"):
+            options["mode"].append(word)
+        elif word in ("-v", "-vr"):
+            options["check"].append(word)
+        elif word[:2] in ("-f", "-o"):
+            if len(word) == 2 and (not left or left[0] == "" or left[0][0] == "-"):
+                return None
+            options[word[:2]].append(word[2:] or left.pop(0))
+        else:
+            return None
+    if any(len(given) > 1 for given in options.values()) or not options["-f"] or options["mode"] not in (["-s"], ["-jro"]):
+        return None
+    return options["mode"][0], options["-f"][0]
 
 
 # ---- random parts
@@ -101,7 +160,7 @@ def random_records(rng, version, entries, many):
     return records, entries
 
 
-def random_journal(rng, name, blocks):
+def random_journal(rng, name, blocks, size=f.BLOCK):
     """A sound journal, and what is in it: (bytes, layout)."""
     version = rng.choice([1, 2])
     epoch = rng.choice([0, 1, 2, 7, 1000, 2 ** 63 - 1, 2 ** 62])
@@ -109,9 +168,9 @@ def random_journal(rng, name, blocks):
     entries = [random_entry(rng) for _ in range(blocks)]
     many = rng.choice([0, 1, 5, 29, 30, 31, 60, 30 * logs])
     records, now = random_records(rng, version, entries, min(many, 30 * logs))
-    disk = bytearray(f.journal(version, epoch, name, entries, logs, records))
+    disk = bytearray(f.journal(version, epoch, name, entries, logs, records, size))
     if epoch > 0 and rng.random() < 0.6:
-        other = f.journal(rng.choice([1, 2]), epoch - 1, name, [("settled", 1)] * blocks, logs, [])
+        other = f.journal(rng.choice([1, 2]), epoch - 1, name, [("settled", 1)] * blocks, logs, [], size)
         area = 1 - epoch % 2
         disk[area * 512:area * 512 + 512] = other[area * 512:area * 512 + 512]
     if len(records) < 30 * (logs - 1) and rng.random() < 0.5:
@@ -169,20 +228,20 @@ def damage(rng, disk, blocks, layout):
         put(log + rng.randrange(512), bytes([rng.randrange(256)]))
 
 
-def random_data(rng, name, entries):
+def random_data(rng, name, entries, size=f.BLOCK):
     """A data file that mostly holds what the entries permit."""
     parts = []
     for block, entry in enumerate(entries):
         keys = entry[1:] or (rng.choice([0, 1]),)
-        at = block * f.BLOCK
+        at = block * size
         choice = rng.random()
         if choice < 0.7 or len(keys) == 1:
             key = rng.choice(keys)
-            part = bytearray(f.block_image(name, block, key) if key else bytes([rng.choice([0, 170])]) * f.BLOCK)
+            part = bytearray(f.block_image(name, block, key, size) if key else bytes([rng.choice([0, 170])]) * size)
         else:
-            part = bytearray(b"".join(f.image(name, at + s * 512, rng.choice(keys) or 1) for s in range(8)))
+            part = bytearray(b"".join(f.image(name, at + s * 512, rng.choice(keys) or 1) for s in range(size // 512)))
         if rng.random() < 0.25:
-            sector = rng.randrange(8)
+            sector = rng.randrange(size // 512)
             where = sector * 512
             wrong = rng.randrange(5)
             if wrong == 0:
@@ -219,16 +278,14 @@ def random_parameters(rng, name, path, kib):
     return rng.choice([b"", b"\n", b"sd=", b"sd=sd1,lun=,size=64k\n", given.replace(b"\n", b"\r\n"), given * 9])
 
 
-def random_case(rng):
-    name, path = random_name(rng), random_path(rng)
-    blocks = rng.choice([1, 2, 3, 16, 40, rng.randint(1, 70), rng.choice([255, 256, 257, 600])])
-    kib = 4 * blocks + rng.randrange(4)
-    disk, layout, entries = random_journal(rng, name, blocks)
+def random_disk_and_data(rng, name, blocks, size=f.BLOCK):
+    disk, layout, entries = random_journal(rng, name, blocks, size)
     if rng.random() < 0.06:
-        disk = bytearray(f.journal(1, 0, rng.choice([name, random_name(rng)]), [("settled", 0)] * rng.choice([blocks, blocks + 1]), 1, []))
+        disk = bytearray(f.journal(1, 0, rng.choice([name, random_name(rng)]), [("settled", 0)] * rng.choice([blocks, blocks + 1]), 1, [],
+                                   rng.choice([size, f.BLOCK])))
     for _ in range(rng.choice([0, 0, 0, 1, 1, 2])):
         damage(rng, disk, blocks, layout)
-    data = random_data(rng, name, entries)
+    data = random_data(rng, name, entries, size)
     cut = rng.random()
     if cut < 0.1:
         data = data[:rng.randrange(len(data) + 1)]
@@ -236,38 +293,77 @@ def random_case(rng):
         data = None
     elif cut < 0.2:
         data += b"more"
+    return disk, data
+
+
+def random_case(rng):
+    if rng.random() < 0.5:
+        return case_of_stores(rng)
+    name, path = random_name(rng), random_path(rng)
+    blocks = rng.choice([1, 2, 3, 16, 40, rng.randint(1, 70), rng.choice([255, 256, 257, 600])])
+    kib = 4 * blocks + rng.randrange(4)
+    disk, data = random_disk_and_data(rng, name, blocks)
     words = ["-jro", "-f", "parm"]
     if rng.random() < 0.05:
         words = rng.choice([[], ["-jro"], ["-jro", "-f"], ["-f", "parm"], ["-f", "parm", "-jro"], ["-jro", "-f", "-x"],
                             ["-jro", "-f", ""], ["-jro", "-f", "parm", "parm"], ["-jr", "-f", "parm"], ["-jro", "-fparm", "x"],
                             ["--help"], ["--version"], ["-sim", "1000001"]])
-    case = Case(words, random_parameters(rng, name, path, kib), None if rng.random() < 0.03 else bytes(disk), data)
-    form = f.read_form(case.parameters)
-    if form is not None and form[1] != path:
-        case.data = None
-        case.openable = "/" not in form[1] and len(form[1]) <= 255
+    given = random_parameters(rng, name, path, kib)
+    if any(store.path[0] == "/" or store.journal[0] == "/" for store in stores_of(given)):
+        given = f.parameters(name, path, kib)
+    return Case(words, given, {name + ".jnl": None if rng.random() < 0.03 else disk}, {path: data})
+
+
+def case_of_stores(rng):
+    """Several stores of several block sizes, whose parameter file has more of the language."""
+    lines, journals, contents = [], {}, {}
+    names = list(dict.fromkeys(random_name(rng) for _ in range(rng.choice([1, 2, 2, 3]))))
+    for i, name in enumerate(names):
+        size = rng.choice([512, 1024, 4096, 4096, 8192, 3 * 512])
+        blocks = rng.choice([1, 2, 3, 16, rng.randint(1, 40), rng.choice([255, 256, 257])])
+        path, journal = random_path(rng) + str(i), rng.choice([None, None, random_path(rng) + f".j{i}"])
+        disk, data = random_disk_and_data(rng, name, blocks, size)
+        if rng.random() < 0.5:
+            disk = random_journal(rng, name, blocks, size)[0]
+        journals[journal or name + ".jnl"] = None if rng.random() < 0.03 else disk
+        contents[path] = data
+        extra = f',journal="{journal}"' if journal else ""
+        if rng.random() < 0.5:
+            extra += f",keyblock={size}"
+        lines.append(f'sd={name},lun="{path}",size={blocks * size + rng.randrange(size)}{extra}\n')
+        lines.append(f"wd=wd{i},sd={name},xfersize={size}\n")
+    if rng.random() < 0.5:
+        rng.shuffle(lines)
+    given = "".join(lines) + f"rd=rd1,wd={rng.choice(['*', 'wd*'])},forthreads=({rng.randint(1, 9)},2)\n"
+    words = rng.choice(["-jro -f parm"] * 6 + ["-f parm -jro", "-fparm -jro", "-jro -v -fparm", "-vr -o x -jro -f parm", "-s -f parm", "-s -vr -fparm",
+                       "-ox -f parm -s", "-s -jro -f parm", "-jro -f parm -fparm", "-jro -f-parm", "-jro -f -parm",
+                       "-jro -o -x -f parm", "-jro -o -f parm", "-v -vr -jro -fparm"]).split()
+    case = Case(words, given.encode(), journals, contents)
+    if "-f-parm" in words:
+        case.parameters = None
     return case
 
 
 def fixed_cases():
     """Cases that chance is slow to find."""
     rng = random.Random(1)
-    given = f.parameters("s", "nowhere/data", 8)
+    words = ["-jro", "-f", "parm"]
     disk = f.journal(1, 0, "s", [("settled", 1)] * 2, 1, [])
-    yield Case(["-jro", "-f", "parm"], given, disk, None, openable=False)
-    yield Case(["-jro", "-f", "parm"], f.parameters("s", "x" * 256, 8), disk, None, openable=False)
-    yield Case(["-jro", "-f", "absent"], None, disk, None)
-    yield Case(["-jro", "-f", "parm"], f.parameters("s", "s.jnl", 8), disk, None)
-    yield Case(["-jro", "-f", "parm"], f.parameters("s", "d", 3), disk, None)
+    for path in ("nowhere/data", "x" * 256, "s.jnl"):
+        yield single(words, f.parameters("s", path, 8), disk, None)
+    yield Case(["-jro", "-f", "absent"], None, {}, {})
+    yield Case(["-s", "-f", "absent"], None, {}, {})
+    yield Case(["-s", "-f", "parm"], f.parameters("s", "d", 3), {}, {})
+    yield single(words, f.parameters("s", "d", 3), disk, None)
     for blocks in (249999, 250000):
         entries = [("settled", 0)] * blocks
         entries[0], entries[-1] = ("settled", 9), ("pending", 4, 5)
         disk, data = f.journal(2, 3, "big", entries, 2, []), f.block_image("big", 0, 9)
-        yield Case(["-jro", "-f", "parm"], f.parameters("big", "d", 4 * blocks), disk, data)
-    yield Case(["-jro", "-f", "parm"], f.parameters("s", "d", 8).ljust(1048577, b"\n"), disk, None)
+        yield single(words, f.parameters("big", "d", 4 * blocks), disk, data)
+    yield single(words, f.parameters("s", "d", 8).ljust(1048577, b"\n"), disk, None)
     for kib in (4, 5, 7):
         disk = f.journal(2, 2 ** 63 - 1, "A_9", [("pending", 126, 1)], 1, [("end", 0, 1)])
-        yield Case(["-jro", "-f", "parm"], f.parameters("A_9", "d", kib), disk, f.block_image("A_9", 0, 1))
+        yield single(words, f.parameters("A_9", "d", kib), disk, f.block_image("A_9", 0, 1))
     yield random_case(rng)
 
 
@@ -275,15 +371,11 @@ def fixed_cases():
 
 def run_case(program, case, folder):
     """What is wrong with a case, or None."""
-    form = None if case.parameters is None else f.read_form(case.parameters)
-    journal = folder / ((form[0] if form else "sd1") + ".jnl")
-    data = folder / form[1] if form and case.openable else None
     if case.parameters is not None:
         (folder / "parm").write_bytes(case.parameters)
-    if case.disk is not None:
-        journal.write_bytes(case.disk)
-    if data is not None and case.data is not None:
-        data.write_bytes(case.data)
+    for path, data in [*case.journals.items(), *case.contents.items()]:
+        if can_be_made(path):
+            (folder / path).write_bytes(data)
     text, status = case.wanted()
     done = subprocess.run([program, *case.words], cwd=folder, stdin=subprocess.DEVNULL, capture_output=True, timeout=120)
     if done.stdout != text.encode():
@@ -292,15 +384,20 @@ def run_case(program, case, folder):
         return f"status {done.returncode}, wanted {status}"
     if done.stderr:
         return f"standard error has {done.stderr[:200]!r}"
-    if case.disk is not None and journal.read_bytes() != case.disk:
-        return "the journal was changed"
-    if data is None:
-        return None
-    opened = text.startswith("journal ") and "cannot open" not in text
-    if not opened:
-        same = not data.exists() if case.data is None else data.read_bytes() == case.data
-        return None if same else "a data file was touched that isn't to be opened"
-    return None if holds(data, case.data or b"", form[2] * f.BLOCK) else "the data file is not the one that was there, with zeros behind it"
+    if any((folder / path).read_bytes() != disk for path, disk in case.journals.items() if can_be_made(path)):
+        return "a journal was changed"
+    opened = {store.path: store.blocks * store.size for store in case.stores if f"\nverified {store.name} " in text}
+    for path in {*case.contents, *opened}:
+        if not can_be_made(path):
+            continue
+        if path in opened:
+            if not holds(folder / path, case.contents.get(path, b""), opened[path]):
+                return "a data file is not the one that was there, with zeros behind it"
+        elif (folder / path).read_bytes() != case.contents[path]:
+            return "a data file was changed that isn't to be opened"
+    there = {"parm", *case.journals, *case.contents, *opened}
+    more = [path.name for path in folder.iterdir() if path.name not in there]
+    return f"it made {more}" if more else None
 
 
 def outside_cases(program):
@@ -336,7 +433,7 @@ def memory_cases(program):
     entries[0] = entries[5000] = ("settled", 1)
     disk = f.journal(2, 1, "s", entries, 1, [])
     given = f.parameters("s", "d", 4 * blocks)
-    text, status = f.report(given, disk, b"")
+    text, status = plan.recovered_only(given, {"s.jnl": disk}, lambda _: b"")
     lines = text.splitlines(keepends=True)[:-2]
     for mib in (4, 5, 6, 8, 64):
         with tempfile.TemporaryDirectory(prefix="vdbench-fuzz-") as place:

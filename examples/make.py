@@ -1,13 +1,15 @@
 #!/usr/bin/env python3
 """Writes the example folders, or with --check compares them with what it would write.
 
-Every byte and every wanted line is computed by formats.py, not by the program.
+Every byte and every wanted line is computed by formats.py and plan.py, not by the program. A folder's file `words` has what the program
+is called with, one word a line; without it that is `-jro -f parm`.
 """
 
 import sys
 from pathlib import Path
 
 import formats as f
+import plan
 
 HERE = Path(__file__).resolve().parent
 NAME, PATH, KIB = "sd1", "sd1.dat", 64
@@ -37,7 +39,7 @@ def put_sector(data, block, sector, image):
 def case(files, disk, data):
     """The files of one example: what is given, and what the program must answer."""
     given = f.parameters(NAME, PATH, KIB)
-    text, status = f.report(given, disk, data or b"")
+    text, status = plan.recovered_only(given, {NAME + ".jnl": disk}, lambda _: data or b"")
     files["parm"] = given
     files[NAME + ".jnl"] = disk
     if data is not None:
@@ -110,16 +112,108 @@ def damaged():
     return {name: case({}, disk, None) for name, disk in disks.items()}
 
 
+PLANS = {
+    "two_stores": """\
+* usual
+sd=default,openflags=o_direct,threads=8
+sd=sd1,lun=/d/a,size=1g
+sd=sd2,lun=/d/b,size=1g
+wd=wd1,sd=sd*,xfersize=4k,rdpct=50
+rd=rd1,wd=wd1,iorate=max,elapsed=60,interval=1
+""",
+    "counted_stores": """\
+sd=sd,lun=/d/x,size=1m,count=(1,3)
+wd=w,sd=(sd1,sd3),xfersize=4k
+rd=r,wd=w
+""",
+    "loops": """\
+# Two hosts have three slaves; each run definition has loops of its own, and one more from the default.
+hd=localhost,jvms=2
+hd=second,system=localhost
+sd=sd1,lun=/d/a,size=64k,keyblock=4k   blocks of 4 KiB, whatever the transfers are
+wd=reads,sd=sd1,xfersize=4k
+wd=writes,sd=sd1,xfersize=8k,rdpct=0,seekpct=seq,skew=30
+rd=default,forthreads=(1,2)
+rd=rd1,wd=*,
+   forxfersize=(4k,8k), turns=1000,
+   iorate=200
+rd=rd2,wd=reads*,forrdpct=("50",100),elapsed=5m,interval=10
+""",
+    "nothing_selected": """\
+sd=sd1,lun=/d/a,size=64k
+wd=wd1,sd=zz*
+rd=rd1,wd=wd1
+""",
+    "no_part": """\
+sd=sd1,,lun=/d/a,size=64k
+""",
+}
+
+
+def plans():
+    """Parameter files whose plan is printed, or why there is none."""
+    made = {}
+    for name, given in PLANS.items():
+        text, status = plan.shown(given.encode())
+        made[name] = {"parm": given.encode(), "words": b"-s\n-f\nparm\n", "stdout": text.encode(), "status": f"{status}\n".encode()}
+    return made
+
+
+TWO = b"""\
+* The second store has blocks of 8 KiB, since its only transfers have that size, and names its journal.
+sd=default,size=64k
+sd=sd1,lun=sd1.dat
+sd=sd2,lun=sd2.dat,journal=second.jnl
+wd=wd1,sd=sd1,xfersize=4k
+wd=wd2,sd=sd2,xfersize=8k
+rd=rd1,wd=wd*
+"""
+
+
+def two(disks, data):
+    """The files of an example of two stores. A store without data has no file of it, and none is made."""
+    journals = dict(zip(("sd1.jnl", "second.jnl"), disks))
+    contents = dict(zip(("sd1.dat", "sd2.dat"), data))
+    text, status = plan.recovered_only(TWO, journals, lambda path: contents.get(path, b""))
+    return {"parm": TWO, **journals, **contents, "stdout": text.encode(), "status": f"{status}\n".encode()}
+
+
+def two_stores():
+    """Two stores: all as it should be, a corrupt block in the second, and a second journal that is damaged."""
+    size = 8192
+    first = untouched()
+    first[0], first[1], first[2] = settled(3), ("pending", 126, 1), settled(9)
+    first_disk = f.journal(2, 4, NAME, first, LOGS, [("begin", 0, 3, 4), ("end", 0, 4)])
+    first_data = bytes(data_of([4, 1, 9] + [0] * 13))
+    second = [settled(5), settled(6), ("pending", 1, 2), ("bad",)] + [settled(0)] * 4
+    records = [("beginrun", 4, 2), ("endrun", 4, 2)]
+    second_disk = f.journal(2, 1, "sd2", second, LOGS, records, size)
+    keys = [5, 6, 1, 0, 1, 1, 0, 0]
+    second_data = bytearray(b"".join(f.block_image("sd2", b, k, size) if k else bytes(size) for b, k in enumerate(keys)))
+    wrong_data = bytearray(second_data)
+    wrong_data[size + 15 * f.SECTOR + 40] ^= 8
+    log = f.log_at(1, 0, len(second), LOGS) * f.SECTOR
+    wrong_disk = bytearray(second_disk)
+    wrong_disk[log + 32 + 16:log + 32 + 32] = f.record_bytes(("endrun", 5, 2))
+    return {
+        "clean": two((first_disk, second_disk), (first_data, bytes(second_data))),
+        "corrupt": two((first_disk, second_disk), (first_data, bytes(wrong_data))),
+        "damaged": two((first_disk, bytes(wrong_disk)), ()),
+    }
+
+
 def all_files():
     folders = {"clean": clean(), "corrupt": corrupt(), "pending": pending()}
     folders.update({"damaged/" + name: files for name, files in damaged().items()})
+    folders.update({"plans/" + name: files for name, files in plans().items()})
+    folders.update({"two_stores/" + name: files for name, files in two_stores().items()})
     return {f"{folder}/{name}": data for folder, files in folders.items() for name, data in files.items()}
 
 
 def main(arguments):
     wanted = all_files()
     if arguments == ["--check"]:
-        there = {str(p.relative_to(HERE)) for folder in ("clean", "corrupt", "pending", "damaged")
+        there = {str(p.relative_to(HERE)) for folder in ("clean", "corrupt", "pending", "damaged", "plans", "two_stores")
                  for p in (HERE / folder).rglob("*") if p.is_file()}
         wrong = sorted(n for n in set(wanted) | there
                        if n not in there or n not in wanted or (HERE / n).read_bytes() != wanted[n])

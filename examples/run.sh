@@ -2,7 +2,10 @@
 # Runs the built program over each example, in a copy of its folder, and compares what it prints and its status.
 #   examples/run.sh [PROGRAM] [NAME..]     NAME is a folder of examples/; none: all of them
 # With no PROGRAM the repository's own is proved and built first, where something changed.
+# A folder's file `words` has what the program is called with, one word a line; without it that is `-jro -f parm`.
 set -u
+# Folders that wait for their commands: they run where they are named, and otherwise once they aren't listed here.
+waiting=''
 here=$(cd "$(dirname "$0")" && pwd)
 if [ $# -gt 0 ]; then
     program=$1
@@ -18,7 +21,7 @@ fi
 program=$(realpath "$program")
 names=("$@")
 if [ ${#names[@]} -eq 0 ]; then
-    mapfile -t names < <(cd "$here" && find . -name parm -printf '%h\n' | sed 's|^\./||' | sort)
+    mapfile -t names < <(cd "$here" && find . -name parm -printf '%h\n' | sed 's|^\./||' | grep -Ev "${waiting:-^$}" | sort)
 fi
 work=$(mktemp -d) || exit 1
 trap 'rm -rf "$work"' EXIT
@@ -26,7 +29,9 @@ wrong=0
 for name in "${names[@]}"; do
     rm -rf "$work/case" && cp -r "$here/$name" "$work/case" || exit 1
     rm -f "$work/case/stdout" "$work/case/status"
-    (cd "$work/case" && "$program" -jro -f parm </dev/null >"$work/stdout" 2>"$work/stderr")
+    words=(-jro -f parm)
+    [ ! -f "$here/$name/words" ] || mapfile -t words <"$here/$name/words"
+    (cd "$work/case" && "$program" "${words[@]}" </dev/null >"$work/stdout" 2>"$work/stderr")
     status=$?
     if ! diff -u "$here/$name/stdout" "$work/stdout"; then
         echo "examples/$name: the text differs"

@@ -7,9 +7,6 @@ use Rattle.run_report.specs.Texts.{◌⧺◌}
 abbrev pub usage_text : List ℕ
 usage_text = codes "usage: vdbench -f file [-s or -v or -vr or -j or -jr or -jro] [-o dir], or vdbench -sim n\n"
 
-abbrev pub form_not_built_text : List ℕ
-form_not_built_text = codes "parameter line 0: form not built\n"
-
 abbrev pub cannot_open_text : List ℕ → List ℕ
 cannot_open_text path = codes "cannot open " ⧺ path ⧺ codes "\n"
 

@@ -20,4 +20,4 @@ pub use plan_print::say_plan;
 pub use printer::Printer;
 pub use simulation::{Simulated, simulation_line};
 pub use status::{Status, last_lines};
-pub use words::{cannot_open_line, cannot_read_line, form_not_built_line, usage_line};
+pub use words::{cannot_open_line, cannot_read_line, usage_line};

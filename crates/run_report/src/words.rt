@@ -1,6 +1,6 @@
 // Lines of a command as a whole, and of its files.
 ghost use Rattle.std.specs.Prelude.{◌≡◌, IfOk};
-ghost use Rattle.run_report.specs.Lines.{usage_text, form_not_built_text, cannot_open_text, cannot_read_text};
+ghost use Rattle.run_report.specs.Lines.{usage_text, cannot_open_text, cannot_read_text};
 
 use std::alloc::Global;
 use vd_outside::{NoMemory, Text};
@@ -10,13 +10,6 @@ pub fn usage_line() -> &'static str
     ensures { result.now ≡ usage_text }
 {
     "usage: vdbench -f file [-s or -v or -vr or -j or -jr or -jro] [-o dir], or vdbench -sim n\n"
-}
-
-/// What is printed for a parameter file of another form than the one that is read so far.
-pub fn form_not_built_line() -> &'static str
-    ensures { result.now ≡ form_not_built_text }
-{
-    "parameter line 0: form not built\n"
 }
 
 /// What is printed where the yard can't open a file.

@@ -7,6 +7,14 @@
 #[cfg(test)]
 mod image;
 #[cfg(test)]
+mod plans;
+#[cfg(test)]
+mod refusals;
+#[cfg(test)]
 mod setting;
 #[cfg(test)]
+mod stores;
+#[cfg(test)]
 mod tests;
+#[cfg(test)]
+mod words;

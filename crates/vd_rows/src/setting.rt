@@ -14,6 +14,13 @@ pub const PARAMETERS: &str = "sd=sd1,lun=/d/a,size=64k\nwd=wd1,sd=sd1,xfersize=4
 /// What a gate has behind its epoch: the name sd1, 16 blocks, 4,096 bytes each, 8 log sectors.
 pub const STORE: &[u8] = b"sd1\0\0\0\0\0\0\0\0\x10\0\0\x10\0\0\0\0\x08";
 
+/// A command over the stores of p.
+pub const RECOVER: &str = "-jro -f p";
+
+/// What it prints of one store with a created journal.
+pub const NOTHING: &str =
+    "journal sd1 epoch 0 records 0\nverified sd1 blocks 0 corrupt 0 pending 0 bad 0 faults 0\nstatus 0\n";
+
 pub fn text(rt: &impl Abort, alloc: Global, text: &str) -> Text {
     Text::from_str(alloc, text).expect(rt, "memory")
 }
@@ -69,12 +76,23 @@ pub fn data(rt: &impl Abort, alloc: Global, fill: u8, images: &[Stamped]) -> Vec
     data
 }
 
+/// The sectors of a created journal of version 1 and epoch 0, of the store that these bytes of a gate name.
+pub fn created(rt: &impl Abort, alloc: Global, store: &[u8]) -> Vec<Sector> {
+    journal(rt, alloc, 20, &[(0, 0, b"VDJGATE1"), (0, 16, store)])
+}
+
+/// A yard with this parameter file, p, alone.
+pub fn yard_of(rt: &impl Abort, alloc: Global, file: &[u8]) -> MemYard {
+    let mut yard = MemYard::new(alloc);
+    let bytes = file.to_vec(alloc).expect(rt, "memory");
+    yard.put_file(text(rt, alloc, "p"), bytes, Vec::new(alloc))
+        .expect(rt, "memory");
+    yard
+}
+
 /// A yard with a parameter file p, a journal, and data.
 pub fn yard(rt: &impl Abort, alloc: Global, sectors: Vec<Sector>, data: Vec<u8>) -> MemYard {
-    let mut yard = MemYard::new(alloc);
-    let file = PARAMETERS.as_bytes().to_vec(alloc).expect(rt, "memory");
-    yard.put_file(text(rt, alloc, "p"), file, Vec::new(alloc))
-        .expect(rt, "memory");
+    let mut yard = yard_of(rt, alloc, PARAMETERS.as_bytes());
     let disk = MemDisk::of(alloc, sectors, Vec::new(alloc)).expect(rt, "memory");
     yard.put_disk(text(rt, alloc, "sd1.jnl"), disk)
         .expect(rt, "memory");

@@ -1,21 +1,14 @@
-// The rows.
+// One store: its journal and its data.
 ghost use Rattle.std.specs.Prelude.{◌≤◌};
 
 use crate::setting::{
-    Bytes, PARAMETERS, STORE, Stamped, data, expect, expect_failing, journal, put, text, yard,
+    Bytes, NOTHING, PARAMETERS, RECOVER, STORE, Stamped, created, data, expect, expect_failing,
+    journal, put, text, yard,
 };
 use std::alloc::Global;
 use std::process::Abort;
 use vd_base::Sector;
 use vd_disk::MemDisk;
-
-const RECOVER: &str = "-jro -f p";
-
-const NOTHING: &str =
-    "journal sd1 epoch 0 records 0\nverified sd1 blocks 0 corrupt 0 pending 0 bad 0 faults 0\nstatus 0\n";
-
-const USAGE: &str =
-    "usage: vdbench -f file [-s or -v or -vr or -j or -jr or -jro] [-o dir], or vdbench -sim n\nstatus 4\n";
 
 /// What differs from a created journal of version 1, what the data holds, and what is printed.
 #[derive(Drop)]
@@ -27,13 +20,8 @@ struct Row<'a> {
     status: u8,
 }
 
-/// The sectors of a created journal of version 1 and epoch 0.
-fn created(rt: &impl Abort, alloc: Global) -> Vec<Sector> {
-    journal(rt, alloc, 20, &[(0, 0, b"VDJGATE1"), (0, 16, STORE)])
-}
-
 fn check(rt: &impl Abort, alloc: Global, row: &Row) {
-    let mut sectors = created(rt, alloc);
+    let mut sectors = created(rt, alloc, STORE);
     for bytes in row.parts {
         put(rt, &mut sectors, bytes);
     }
@@ -300,7 +288,7 @@ fn put_pairs(rt: &impl Abort, sectors: &mut Vec<Sector>, place: u8, first: u8)
 fn a_log_with_a_hole(rt: HostRuntime) {
     // Log sectors 0 to 4 take block 0 to key 75, sector 5 is zeros, sector 6 is full too.
     let alloc = rt.alloc();
-    let mut sectors = created(&rt, alloc);
+    let mut sectors = created(&rt, alloc, STORE);
     for (place, first) in [(0, 1), (1, 16), (2, 31), (3, 46), (4, 61), (6, 76)] {
         put_pairs(&rt, &mut sectors, place, first);
     }
@@ -379,82 +367,13 @@ fn the_greatest_epoch(rt: HostRuntime) {
     assert!(rt; made.is_some_and(|bytes| bytes.len() == 65536));
 }
 
-#[test]
-fn words_and_files(rt: HostRuntime) {
-    let alloc = rt.alloc();
-    let mut created = yard(&rt, alloc, created(&rt, alloc), Vec::new(alloc));
-    for line in [
-        "",
-        "-jro",
-        "-jro -f",
-        "-j -jr -f p",
-        "-sim 1000001",
-        "-sim",
-        "-sim x",
-        "-sim 1 2",
-        "-f p -jro",
-        "-jro -f -p",
-        "-jro -f p p",
-        "--help",
-    ] {
-        expect(&rt, alloc, line, line, &mut created, USAGE, 4);
-    }
-    for (line, text) in [
-        (
-            "-sim 0",
-            "sim 0 taken 0 idle 0 ends 0 stops 0 wrong 0\nstatus 0\n",
-        ),
-        (
-            "-sim 1",
-            "sim 1 taken 1 idle 0 ends 0 stops 0 wrong 0\nstatus 0\n",
-        ),
-        (
-            "-sim 100",
-            "sim 100 taken 29 idle 71 ends 0 stops 0 wrong 0\nstatus 0\n",
-        ),
-    ] {
-        expect(&rt, alloc, line, line, &mut created, text, 0);
-    }
-    expect(
-        &rt,
-        alloc,
-        "no file",
-        "-jro -f q",
-        &mut created,
-        "cannot open q\nstatus 12\n",
-        12,
-    );
-    // twice over one yard: the first command gave everything back
-    expect(&rt, alloc, "first", RECOVER, &mut created, NOTHING, 0);
-    expect(&rt, alloc, "again", RECOVER, &mut created, NOTHING, 0);
-    for other in [
-        "",
-        "sd=sd1,lun=/d/a,size=64k,hitarea=1m\n",
-        "sd=sd1,lun=/d/a,size=3k\nwd=wd1,sd=sd1,xfersize=4k\nrd=rd1,wd=wd1\n",
-    ] {
-        let bytes = other.as_bytes().to_vec(alloc).expect(&rt, "memory");
-        created
-            .put_file(text(&rt, alloc, "p"), bytes, Vec::new(alloc))
-            .expect(&rt, "memory");
-        expect(
-            &rt,
-            alloc,
-            other,
-            RECOVER,
-            &mut created,
-            "parameter line 0: form not built\nstatus 3\n",
-            3,
-        );
-    }
-}
-
 fn one(rt: &impl Abort, alloc: Global, number: u64) -> Vec<u64> {
     Vec::from_slice(alloc, &[number]).expect(rt, "memory")
 }
 
 /// A created journal, with a refused opening at this path: the one before which so many go on.
 fn refused(rt: &impl Abort, alloc: Global, path: &str, place: u64, wanted: &str) {
-    let mut yard = yard(rt, alloc, created(rt, alloc), Vec::new(alloc));
+    let mut yard = yard(rt, alloc, created(rt, alloc, STORE), Vec::new(alloc));
     yard.refuse(text(rt, alloc, path), place)
         .expect(rt, "memory");
     expect(rt, alloc, path, RECOVER, &mut yard, wanted, 12);
@@ -486,7 +405,7 @@ fn refused_openings(rt: HostRuntime) {
 #[test]
 fn failed_calls(rt: HostRuntime) {
     let alloc = rt.alloc();
-    let mut yard = yard(&rt, alloc, created(&rt, alloc), Vec::new(alloc));
+    let mut yard = yard(&rt, alloc, created(&rt, alloc, STORE), Vec::new(alloc));
     // the output's first and second write
     expect_failing(&rt, alloc, RECOVER, &mut yard, 0, "");
     expect_failing(
@@ -515,7 +434,9 @@ fn failed_calls(rt: HostRuntime) {
 
 fn unread_journal(rt: &impl Abort, alloc: Global) {
     let mut yard = yard(rt, alloc, Vec::new(alloc), Vec::new(alloc));
-    let disk = MemDisk::of(alloc, created(rt, alloc), one(rt, alloc, 2)).expect(rt, "memory");
+    let disk = MemDisk::of(alloc, created(rt, alloc, STORE), one(rt, alloc, 2)).expect(
+        rt, "memory",
+    );
     yard.put_disk(text(rt, alloc, "sd1.jnl"), disk)
         .expect(rt, "memory");
     expect(
@@ -536,7 +457,7 @@ fn unread_block(rt: &impl Abort, alloc: Global) {
     let beside =
         "journal sd1 epoch 0 records 0\nreadfault sd1 block 0\ncorrupt sd1 block 1 sector 7 address 7680 part key keys 3\nverified sd1 blocks 1 corrupt 1 pending 0 bad 0 faults 1\nstatus 2\n";
     for (map, wanted) in [([3, 0, 0, 0], alone), ([3, 0, 3, 0], beside)] {
-        let mut sectors = created(rt, alloc);
+        let mut sectors = created(rt, alloc, STORE);
         put(rt, &mut sectors, &(2, 0, &map));
         let bytes = data(rt, alloc, 0, &[(0, 0, 8, 3), (1, 0, 8, 3), (1, 7, 8, 2)]);
         let mut yard = yard(rt, alloc, sectors, Vec::new(alloc));

@@ -1,6 +1,6 @@
 -- The counts of a path, added up from what was kept there.
 use Rattle.std.specs.Prelude.{◌≡◌, ℕ, ◌+◌, ◌%◌, ◌^◌, ◌-◌, ◌≤◌, min, max, Bool, true, false, cond, List, if◌then◌else◌, refl}
-use Rattle.std.proofs.Common.{ap, arith}
+use Rattle.std.proofs.Common.{ap, arith, sym}
 use Rattle.std.specs.Str.{bytes_eq}
 use Rattle.std.proofs.lemmas.Slice.Eq.{bytes_eq-Decides}
 
@@ -101,6 +101,16 @@ pub arm_faults_none : (c : Counts) (p : List ℕ) (r w : ℕ) (q : List ℕ) →
 unfolding arm_faults add_arm
 arm_faults_none c p r w q = none_held_arm (bytes_eq p q) (c.at q) _ _
 
+-- another path's counts stay
+not_there : (b : Bool) (c d : PathCounts) → (b ≡ true → ⊥) → cond b c d ≡ d
+not_there true c d n = absurd (n refl)
+not_there false c d n = refl
+
+pub arm_faults_other : (c : Counts) (p : List ℕ) (f r w : ℕ) (q : List ℕ) → (q ≡ p → ⊥) → arm_faults (add_arm c p f r w) q ≡ arm_faults c q
+unfolding arm_faults add_arm
+arm_faults_other c p f r w q n =
+    ap (λ (s : PathCounts). s.arm_faults) (not_there (bytes_eq p q) _ _ (λ e. n (sym ((bytes_eq-Decides p q).0 e))))
+
 pub source_faults_of_arm : (c : Counts) (p : List ℕ) (f r w : ℕ) (q : List ℕ) → source_faults (add_arm c p f r w) q ≡ source_faults c q
 unfolding source_faults add_arm
 source_faults_of_arm c p f r w q = rw (pick_source (bytes_eq p q)) (same_cond (bytes_eq p q) _)
@@ -128,6 +138,11 @@ good_reads c q = (c.at q).good_reads
 pub good_reads_here : (c : Counts) (p : List ℕ) (f r w : ℕ) → good_reads (add_arm c p f r w) p ≡ (good_reads c p + r) % 2 ^ 64
 unfolding good_reads add_arm
 good_reads_here c p f r w = ap (λ (s : PathCounts). s.good_reads) (picked (bytes_eq p p) _ _ ((bytes_eq-Decides p p).1 refl))
+
+pub good_reads_other : (c : Counts) (p : List ℕ) (f r w : ℕ) (q : List ℕ) → (q ≡ p → ⊥) → good_reads (add_arm c p f r w) q ≡ good_reads c q
+unfolding good_reads add_arm
+good_reads_other c p f r w q n =
+    ap (λ (s : PathCounts). s.good_reads) (not_there (bytes_eq p q) _ _ (λ e. n (sym ((bytes_eq-Decides p q).0 e))))
 
 pick_reads : (b : Bool) (c d : PathCounts) → (cond b c d).good_reads ≡ cond b c.good_reads d.good_reads
 pick_reads true c d = refl

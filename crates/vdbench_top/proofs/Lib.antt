@@ -1,8 +1,5 @@
 pub mod Reading
-pub mod FormLemmas
-pub mod Frames
-pub mod Pieces
-pub mod Contents
-pub mod Stores
+pub mod Naming
+pub mod Plans
 pub mod Tellings
 pub mod Schedules

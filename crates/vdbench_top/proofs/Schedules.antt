@@ -1,6 +1,6 @@
 -- What words without a parameter file come to.
-use Rattle.std.proofs.Common.{◌≡◌, ℕ, List, [], ◌∷◌, true, false, refl, sym, ◌∙◌, subst, Result, Ok, Err, IfOk}
-use Rattle.std.specs.Prelude.{Option, Some, None, ◌≢◌}
+use Rattle.std.proofs.Common.{◌≡◌, ℕ, List, [], true, false, refl, sym, ◌∙◌, subst, Result, Ok, Err, IfOk}
+use Rattle.std.specs.Prelude.{Some, None, ◌≢◌}
 use Rattle.vd_outside.specs.declared.text.NoMemory.{NoMemory}
 use Rattle.interleave_core.specs.declared.summary.Summary.{Summary}
 use Rattle.interleave_core.specs.Schedule.{Simulates}
@@ -9,12 +9,11 @@ use Rattle.run_report.specs.declared.status.Status.TheVariants as status
 use Rattle.run_report.specs.Lines.{usage_text}
 use Rattle.run_report.specs.Simulation.{simulation_text}
 use Rattle.run_report.specs.Says.{Printing, Says, says_along}
-use Rattle.vdbench_top.specs.declared.command.Command.{Command}
-use Rattle.vdbench_top.specs.Recovery.{SaysLine}
+use Rattle.still_plan.specs.Lines.{SaysLine}
 use Rattle.vdbench_top.specs.Simulation.{simulated, IsSimulated, counted, too_little_memory, SaidOfWords, no_command, schedule}
 use Rattle.run_report.specs.Status.{last_text}
 use Rattle.vdbench_top.specs.Still.{Ends}
-use Rattle.vdbench_top.specs.Words.{file_of, steps_of, command_by}
+use Rattle.vdbench_top.specs.Words.{steps_of}
 use Rattle.vdbench_top.proofs.Tellings.{ends_by}
 
 pub simulated_by : (n : ℕ) (counts : Summary) (line : Result (List ℕ) NoMemory) (result : Status) (a b : Printing) → Simulates n counts → IfOk line (λ l. l ≡ simulation_text (simulated n counts)) → SaysLine line status.Good result a b → (text : List ℕ) × Says a b text × IsSimulated n text result
@@ -24,16 +23,8 @@ simulated_by n counts (Err f) result a b s e p = ([], p.1, too_little_memory ref
 some_none : (n : ℕ) → Some n ≡ None → ⊥
 some_none n e = cc
 
-file_none : (c : Command) → Some c ≡ None → ⊥
-file_none c e = cc
-
 same_some : (m n : ℕ) → Some m ≡ Some n → m ≡ n
 same_some m n e = cc
-
-pub no_steps : (f : Option (List ℕ)) (s : Option ℕ) → command_by f s ≡ None → s ≡ None
-no_steps (Some name) s e = absurd (file_none _ e)
-no_steps None (Some n) e = absurd (file_none _ e)
-no_steps None None e = refl
 
 pub said_usage : (words : List (List ℕ)) (text : List ℕ) (result : Status) → SaidOfWords words text result → steps_of words ≡ None → (text ≡ usage_text) × (result ≡ status.Usage)
 said_usage words text result (no_command e t r) none = (t, r)
@@ -42,13 +33,6 @@ said_usage words text result (schedule n e s) none = absurd (some_none n (sym e 
 pub said_steps : (words : List (List ℕ)) (text : List ℕ) (result : Status) (n : ℕ) → SaidOfWords words text result → steps_of words ≡ Some n → IsSimulated n text result
 said_steps words text result n (no_command e t r) is = absurd (some_none n (sym is ∙ e))
 said_steps words text result n (schedule m e s) is = subst (λ (k : ℕ). IsSimulated k text result) (same_some m n (sym e ∙ is)) s
-
-pub not_both : (words : List (List ℕ)) (name : List ℕ) (n : ℕ) → file_of words ≡ Some name → steps_of words ≡ Some n → ⊥
-not_both [] name n f s = cc
-not_both (a ∷ []) name n f s = cc
-not_both (a ∷ b ∷ []) name n f s = cc
-not_both (a ∷ b ∷ c ∷ []) name n f s = cc
-not_both (a ∷ b ∷ c ∷ d ∷ rest) name n f s = cc
 
 -- a schedule ends well or for want of memory
 pub not_this : (n : ℕ) (text : List ℕ) (result other : Status) → IsSimulated n text result → status.Good ≢ other → status.NoMemory ≢ other → result ≡ other → ⊥

@@ -1,44 +1,82 @@
--- The words of a command.
-use Rattle.std.specs.Prelude.{ℕ, Bool, false, not, ◌==◌, ◌&&◌, List, [], ◌∷◌, Option, Some, None, if◌then◌else◌, codes, nat_le, length}
-use Rattle.std.specs.List.{list_all}
+-- What the words of a command ask for, of what is built so far.
+use Rattle.std.specs.Prelude.{ℕ, Bool, true, false, List, Option, Some, None, if◌then◌else◌, codes, take, drop, slice_get}
+use Rattle.std.specs.Option.{option_map}
 use Rattle.std.specs.Str.{bytes_eq}
-use Rattle.vdbench_top.specs.declared.command.Command.{Command}
-use Rattle.vdbench_top.specs.declared.command.Mode.TheVariants.{RecoverOnly, Simulate}
-use Rattle.vdbench_top.specs.Form.{number_in}
+use Rattle.command_words.specs.Words.{command_said}
+use Rattle.command_words.specs.declared.command.Command.{Command}
+use Rattle.command_words.specs.declared.command.Mode.{Mode}
+use Rattle.command_words.specs.declared.command.Mode.TheVariants as mode
 
--- a file's name isn't empty and doesn't begin with a dash
-abbrev pub is_file_name : List ℕ → Bool
-is_file_name [] = false
-is_file_name (b ∷ bs) = not (b == 45)
+-- a mode that changes nothing outside
+abbrev pub is_still : Mode → Bool
+is_still mode.Show = true
+is_still mode.RecoverOnly = true
+is_still (mode.Simulate n) = true
+is_still mode.Validate = false
+is_still mode.Journal = false
+is_still mode.Recover = false
 
--- the words are -jro, -f and the name of a file, in this order
+abbrev pub still_only : Option Command → Option Command
+still_only None = None
+still_only (Some command) = if is_still command.mode then Some command else None
+
+-- the command that words say, of those that are built
+abbrev pub command_built : List (List ℕ) → Option Command
+command_built words = still_only (command_said words)
+
+-- the parameter file's name in the word that names it: joined to the option, or alone
+abbrev pub name_in : List ℕ → List ℕ
+name_in word = if bytes_eq (take 2 word) (codes "-f") then drop 2 word else word
+
+abbrev pub name_at : List (List ℕ) → Option ℕ → Option (List ℕ)
+name_at words None = None
+name_at words (Some at) = option_map name_in (slice_get words at)
+
+-- a schedule has no parameter file
+abbrev pub file_in : List (List ℕ) → Option ℕ → Mode → Option (List ℕ)
+file_in words file mode.Show = name_at words file
+file_in words file mode.RecoverOnly = name_at words file
+file_in words file (mode.Simulate n) = None
+file_in words file mode.Validate = None
+file_in words file mode.Journal = None
+file_in words file mode.Recover = None
+
+abbrev pub file_by : List (List ℕ) → Option Command → Option (List ℕ)
+file_by words None = None
+file_by words (Some command) = file_in words command.file command.mode
+
+-- the name of a command's parameter file
 abbrev pub file_of : List (List ℕ) → Option (List ℕ)
-file_of (mode ∷ flag ∷ name ∷ []) =
-    if bytes_eq mode (codes "-jro") && bytes_eq flag (codes "-f") && is_file_name name then Some name else None
-file_of words = None
+file_of words = file_by words (command_built words)
 
--- one to twenty digits
-abbrev pub is_digit : ℕ → Bool
-is_digit b = nat_le 48 b && nat_le b 57
+abbrev pub steps_in : Mode → Option ℕ
+steps_in mode.Show = None
+steps_in mode.RecoverOnly = None
+steps_in (mode.Simulate n) = Some n
+steps_in mode.Validate = None
+steps_in mode.Journal = None
+steps_in mode.Recover = None
 
-abbrev pub is_number : List ℕ → Bool
-is_number text = nat_le 1 (length text) && nat_le (length text) 20 && list_all is_digit text
+abbrev pub steps_by : Option Command → Option ℕ
+steps_by None = None
+steps_by (Some command) = steps_in command.mode
 
--- a schedule has at most 1,000,000 steps
-abbrev pub up_to_most : ℕ → Option ℕ
-up_to_most n = if nat_le n 1000000 then Some n else None
-
--- the words are -sim and a number of steps
+-- the number of a schedule
 abbrev pub steps_of : List (List ℕ) → Option ℕ
-steps_of (mode ∷ number ∷ []) = if bytes_eq mode (codes "-sim") && is_number number then up_to_most (number_in number) else None
-steps_of words = None
+steps_of words = steps_by (command_built words)
 
--- the command over a file, or of a number of steps
-abbrev pub command_by : Option (List ℕ) → Option ℕ → Option Command
-command_by (Some name) steps = Some (record { mode = RecoverOnly; reread = false; file = Some 2 })
-command_by None (Some n) = Some (record { mode = Simulate n; reread = false; file = None })
-command_by None None = None
+abbrev pub is_show : Mode → Bool
+is_show mode.Show = true
+is_show mode.RecoverOnly = false
+is_show (mode.Simulate n) = false
+is_show mode.Validate = false
+is_show mode.Journal = false
+is_show mode.Recover = false
 
--- the command that words say
-abbrev pub command_said : List (List ℕ) → Option Command
-command_said words = command_by (file_of words) (steps_of words)
+abbrev pub shows_by : Option Command → Bool
+shows_by None = false
+shows_by (Some command) = is_show command.mode
+
+-- whether the plan is to be shown
+abbrev pub shows_plan : List (List ℕ) → Bool
+shows_plan words = shows_by (command_built words)

@@ -4,15 +4,11 @@
 //! that nothing which it opened stays out. It stands on all layers below.
 #![tactic(auto)]
 
-mod command;
-mod form;
-mod recovery;
 mod simulation;
 mod source;
 mod still;
-mod verification;
 mod words;
 
-pub use command::{Command, Mode};
+pub use command_words::{Command, Mode};
 pub use still::vdbench_still;
 pub use words::command_of;

@@ -4,11 +4,11 @@ ghost use Rattle.run_report.specs.Says.{Says, printing};
 ghost use Rattle.vdbench_top.specs.Words.{steps_of};
 ghost use Rattle.vdbench_top.specs.Simulation.{IsSimulated, SaidOfWords};
 
-use crate::still::say_line;
 use crate::words::steps_of_words;
 use interleave_core::simulate;
 use run_report::{Printer, Simulated, Status, simulation_line, usage_line};
 use std::alloc::Global;
+use still_plan::say_line;
 use vd_outside::Sink;
 
 /// Runs a schedule and prints what it came to.

@@ -5,7 +5,7 @@ ghost use Rattle.vd_yard.specs.Out.{AtSource};
 ghost use Rattle.vd_yard.specs.Counts.{source_faults, arm_faults, good_reads};
 ghost use Rattle.vd_yard.specs.Yard.{is_there};
 ghost use Rattle.vdbench_top.specs.Bytes.{AllUpTo};
-ghost use Rattle.vdbench_top.specs.Frame.{Keeps};
+ghost use Rattle.still_store.specs.Frame.{Keeps};
 
 use std::alloc::Global;
 use vd_outside::{Source, Text};

@@ -1,204 +1,84 @@
-// A still command over one store.
-ghost use Rattle.std.specs.Prelude.{◌≡◌, ◌≢◌, ◌⊎◌, ℕ, List, IfOk, IsTrue, Some, None, take, map, string_bytes, true, false, length};
+// A still command: the plan of a parameter file, printed, or looked at store by store.
+ghost use Rattle.std.specs.Prelude.{◌≡◌, ◌≢◌, ℕ, List, [], IsTrue, Some, None, Ok, take, map, string_bytes, true, false};
 ghost use Rattle.vd_outside.specs.Causes.{Rose};
-ghost use Rattle.vd_disk.specs.Disk.{DiskSeen, Sectors};
 ghost use Rattle.vd_yard.specs.Counts.{source_faults, arm_faults};
 ghost use Rattle.vd_yard.specs.Kept.{kept_at};
-ghost use Rattle.journal_recover.specs.Answers.{Answers};
+ghost use Rattle.plan_types.specs.Valid.{IsPlan};
+ghost use Rattle.plan_types.specs.declared.plan.Plan.{Plan as APlan};
+ghost use Rattle.plan_file.specs.Files.{PlansTo};
 ghost use Rattle.run_report.specs.Says.{Says, printing};
-ghost use Rattle.vdbench_top.specs.Form.{store_in};
-ghost use Rattle.vdbench_top.specs.Frame.{Keeps, JournalsStay, BlocksStay};
-ghost use Rattle.vdbench_top.specs.Recovery.{damage_word as word_of_damage, SaysRefusal};
+ghost use Rattle.run_report.specs.Status.{last_text};
+ghost use Rattle.still_store.specs.Frame.{Keeps, JournalsStay};
+ghost use Rattle.still_plan.specs.Frame.{DiskFailed, StoresStay};
+ghost use Rattle.vdbench_top.specs.Still.{DataStays, Ends, FindsNoData, IsHonest, IsNoFault, SaidOfBytes, SaidOfFile, SaidOfPlan, SomeRefused};
 
-use crate::form::store_of_bytes;
-use crate::recovery::{NotRecovered, recover_store};
 use crate::simulation::run_without_file;
 use crate::source::{Unread, read_file};
-use crate::verification::{NotVerified, verify_store};
-use crate::words::file_of_words;
-use journal_layout::Damage;
-use journal_recover::{RecoverFault, Recovered};
-use plan_types::StorePlan;
-use run_report::{
-    Printer, Status, Verified, cannot_open_line, cannot_read_line, damaged_line,
-    form_not_built_line, journal_fault_line, journal_line, last_lines, mismatch_line,
-    no_journal_line,
-};
+use crate::words::{file_of_words, shows_plan};
+use plan_file::{Unplanned, plan_of_file};
+use plan_types::Plan;
+use run_report::{Printer, Status, cannot_open_line, cannot_read_line, last_lines, say_plan};
 use std::alloc::Global;
-use vd_base::StoreId;
-use vd_outside::{NoMemory, Sink, Text};
+use still_plan::{say_line, still_stores};
+use vd_outside::{Sink, Text};
 use vd_yard::Yard;
 
-/// Says a line that was made, and answers this status; or that memory ran out, and says nothing.
-pub fn say_line<S: Sink>(
-    line: Result<Text, NoMemory>,
-    status: Status,
-    printer: &mut Printer,
-    out: &mut S,
-) -> Status
-    ensures { SaysLine line status result (printing printer.old.failed (S.taken out.old) (S.faults out.old)) (printing printer.new.failed (S.taken out.new) (S.faults out.new)) }
+/// Prints a plan.
+fn show<S: Sink>(alloc: Global, plan: &Plan, printer: &mut Printer, out: &mut S) -> Status
+    requires { IsPlan plan.now }
+    ensures says { result ≡ Status.Good → Says (printing printer.old.failed (S.taken out.old) (S.faults out.old)) (printing printer.new.failed (S.taken out.new) (S.faults out.new)) (plan_text plan.now) }
+    ensures front { result ≡ Status.NoMemory → SaysFront (printing printer.old.failed (S.taken out.old) (S.faults out.old)) (printing printer.new.failed (S.taken out.new) (S.faults out.new)) (plan_text plan.now) }
+    ensures only { (result ≡ Status.Good) ⊎ (result ≡ Status.NoMemory) }
 {
-    match line {
-        Ok(line) => {
-            printer.say(out, line.as_str());
-            status
-        }
+    match say_plan(alloc, plan, printer, out) {
+        Ok(()) => Status::Good,
         Err(_) => Status::NoMemory,
     }
 }
 
-fn damage_word(what: Damage) -> &'static str
-    ensures { result.now ≡ word_of_damage what }
-{
-    match what {
-        Damage::Missing => "missing",
-        Damage::Map => "map",
-        Damage::Header => "header",
-        Damage::Record => "record",
-        Damage::Tail => "tail",
-    }
-}
-
-/// Says why a journal isn't recovered.
-fn refuse<S: Sink>(
-    alloc: Global,
-    store: &StoreId,
-    fault: RecoverFault,
-    printer: &mut Printer,
-    out: &mut S,
-) -> Status
-    ensures { SaysRefusal store.now fault result (printing printer.old.failed (S.taken out.old) (S.faults out.old)) (printing printer.new.failed (S.taken out.new) (S.faults out.new)) }
-{
-    match fault {
-        RecoverFault::NoJournal => say_line(
-            no_journal_line(alloc, &store.name),
-            Status::NoJournal,
-            printer,
-            out,
-        ),
-        RecoverFault::Mismatch { found, .. } => say_line(
-            mismatch_line(alloc, &found, store),
-            Status::Mismatch,
-            printer,
-            out,
-        ),
-        RecoverFault::Damaged { sector, what, at } => say_line(
-            damaged_line(alloc, &store.name, sector, damage_word(what), at),
-            Status::Damaged,
-            printer,
-            out,
-        ),
-        RecoverFault::Failed => say_line(
-            journal_fault_line(alloc, &store.name, 0),
-            Status::Journal,
-            printer,
-            out,
-        ),
-        RecoverFault::NoMemory => Status::NoMemory,
-    }
-}
-
-ghost use Rattle.vdbench_top.specs.Recovery.{SaysLine};
-
-fn status_of(counted: &Verified) -> Status
-    ensures { result ≡ counted_status counted.now }
-{
-    if counted.faults != 0 {
-        return Status::Device;
-    }
-    if counted.corrupt != 0 {
-        return Status::Corrupt;
-    }
-    Status::Good
-}
-
-ghost use Rattle.vdbench_top.specs.Verification.{counted_status};
-ghost use Rattle.vdbench_top.specs.Still.{SaysStore, SaidOfStore, IsSaid, IsTold, DiskFailed, JournalRefused, FindsNoData};
-ghost use Rattle.key_state.specs.Entries.{AreEntries};
-
-/// Says that a store's journal was recovered, and verifies the store.
-fn run_recovered<Y: Yard, S: Sink>(
+/// A command over a plan: it is printed, or its stores are looked at.
+fn run_plan<Y: Yard, S: Sink>(
     alloc: Global,
     yard: &mut Y,
-    store: &StorePlan,
-    found: &Recovered,
+    shows: bool,
+    plan: &Plan,
     printer: &mut Printer,
     out: &mut S,
 ) -> Status
-    requires one_each { length found.now.entries.items ≡ store.now.id.geometry.blocks }
-    requires valid { AreEntries found.now.entries.items }
-    ensures keeps { Keeps (Y.seen yard.old) (Y.seen yard.new) }
-    ensures disks { (Y.seen yard.new).disks ≡ (Y.seen yard.old).disks }
-    ensures sources { (q : List ℕ) → source_faults (Y.seen yard.new).counts q ≡ source_faults (Y.seen yard.old).counts q }
-    ensures blocks { BlocksStay store.now (Y.seen yard.old).contents (Y.seen yard.new).contents }
-    ensures said { SaysStore (Y.seen yard.old) (Y.seen yard.new) store.now found.now.live.epoch found.now.records found.now.entries.items result
-        (printing printer.old.failed (S.taken out.old) (S.faults out.old)) (printing printer.new.failed (S.taken out.new) (S.faults out.new)) }
-    ensures yard_quiet { result ≢ Status.Yard → result ≢ Status.NoMemory → (Y.seen yard.new).faults ≡ (Y.seen yard.old).faults }
-    ensures output { result ≡ Status.Sink → printer.new.failed ≡ true }
-{
-    let Ok(line) = journal_line(alloc, &store.id.name, found.live.epoch, found.records) else {
-        return Status::NoMemory;
-    };
-    printer.say(out, line.as_str());
-    if printer.failed {
-        return Status::Sink;
-    }
-    match verify_store(alloc, yard, store, found.entries.as_slice(), printer, out) {
-        Ok(counted) => status_of(&counted),
-        Err(NotVerified::Yard) => say_line(
-            cannot_open_line(alloc, &store.path),
-            Status::Yard,
-            printer,
-            out,
-        ),
-        Err(NotVerified::Output) => Status::Sink,
-        Err(NotVerified::NoMemory) => Status::NoMemory,
-    }
-}
-
-/// Recovers a store's journal and verifies the store.
-fn run_store<Y: Yard, S: Sink>(
-    alloc: Global,
-    yard: &mut Y,
-    store: &StorePlan,
-    printer: &mut Printer,
-    out: &mut S,
-) -> Status
+    requires valid { IsPlan plan.now }
     ensures keeps { Keeps (Y.seen yard.old) (Y.seen yard.new) }
     ensures journals { JournalsStay (Y.seen yard.old).disks (Y.seen yard.new).disks }
     ensures sources { (q : List ℕ) → source_faults (Y.seen yard.new).counts q ≡ source_faults (Y.seen yard.old).counts q }
-    ensures blocks { BlocksStay store.now (Y.seen yard.old).contents (Y.seen yard.new).contents }
-    ensures said { (text : List ℕ)
-        × Says (printing printer.old.failed (S.taken out.old) (S.faults out.old)) (printing printer.new.failed (S.taken out.new) (S.faults out.new)) text
-        × SaidOfStore (Y.seen yard.old) (Y.seen yard.new) store.now text result }
-    ensures causes { Causes (Y.seen yard.old) (Y.seen yard.new) store.now.path result }
+    ensures contents { ((Y.seen yard.new).contents ≡ (Y.seen yard.old).contents) ⊎ StoresStay plan.now.stores (Y.seen yard.old).contents (Y.seen yard.new).contents }
+    ensures said { (text : List ℕ) × Says (printing printer.old.failed (S.taken out.old) (S.faults out.old)) (printing printer.new.failed (S.taken out.new) (S.faults out.new)) text × SaidOfPlan (Y.seen yard.old) (Y.seen yard.new) shows plan.now text result }
+    ensures refused { SomeRefused (Y.seen yard.old) plan.now.stores → (Y.seen yard.new).contents ≡ (Y.seen yard.old).contents }
     ensures untouched { result ≢ Status.Good → result ≢ Status.Corrupt → result ≢ Status.Device → result ≢ Status.Yard → result ≢ Status.Sink →
         result ≢ Status.NoMemory → (Y.seen yard.new).contents ≡ (Y.seen yard.old).contents }
-    ensures refused { JournalRefused (Y.seen yard.old) store.now → (Y.seen yard.new).contents ≡ (Y.seen yard.old).contents }
+    ensures shows_only { shows ≡ true → ((Y.seen yard.new).contents ≡ (Y.seen yard.old).contents) × ((Y.seen yard.new).disks ≡ (Y.seen yard.old).disks) }
+    ensures yard_fault { result ≡ Status.Yard → Rose (Y.seen yard.old).faults (Y.seen yard.new).faults }
     ensures yard_quiet { result ≢ Status.Yard → result ≢ Status.NoMemory → (Y.seen yard.new).faults ≡ (Y.seen yard.old).faults }
     ensures disk_fault { result ≡ Status.Journal → IsTrue (Y.seen yard.old).tells.keeps_disks → DiskFailed (Y.seen yard.old) (Y.seen yard.new) }
     ensures disk_quiet { result ≢ Status.Journal → result ≢ Status.NoMemory → (path : List ℕ) →
         kept_at (Y.seen yard.new).disks path ≡ kept_at (Y.seen yard.old).disks path }
+    ensures device_fault { result ≡ Status.Device → (path : List ℕ) × Rose (arm_faults (Y.seen yard.old).counts path) (arm_faults (Y.seen yard.new).counts path) }
+    ensures device_quiet { result ≢ Status.Device → result ≢ Status.Yard → result ≢ Status.Sink → result ≢ Status.NoMemory → (path : List ℕ) →
+        arm_faults (Y.seen yard.new).counts path ≡ arm_faults (Y.seen yard.old).counts path }
+    ensures no_usage { result ≡ Status.Usage → ⊥ }
+    ensures no_epoch { result ≡ Status.EpochEnd → ⊥ }
     ensures output { result ≡ Status.Sink → printer.new.failed ≡ true }
+    ensures no_source { result ≡ Status.Source → ⊥ }
 {
-    match recover_store(alloc, yard, store) {
-        Ok(found) => run_recovered(alloc, yard, store, &found, printer, out),
-        Err(NotRecovered::Yard) => say_line(
-            cannot_open_line(alloc, &store.journal),
-            Status::Yard,
-            printer,
-            out,
-        ),
-        Err(NotRecovered::Refused(fault)) => refuse(alloc, &store.id, fault, printer, out),
+    if shows {
+        return show(alloc, plan, printer, out);
     }
+    still_stores(alloc, yard, plan.stores.as_slice(), printer, out)
 }
-
-ghost use Rattle.vdbench_top.specs.Still.{Causes};
 
 /// A command over a parameter file of these bytes.
 fn run_parameters<Y: Yard, S: Sink>(
     alloc: Global,
     yard: &mut Y,
+    shows: bool,
     bytes: &[u8],
     printer: &mut Printer,
     out: &mut S,
@@ -207,69 +87,70 @@ fn run_parameters<Y: Yard, S: Sink>(
     ensures journals { JournalsStay (Y.seen yard.old).disks (Y.seen yard.new).disks }
     ensures sources { (q : List ℕ) → source_faults (Y.seen yard.new).counts q ≡ source_faults (Y.seen yard.old).counts q }
     ensures contents { ((Y.seen yard.new).contents ≡ (Y.seen yard.old).contents)
-        ⊎ ((store : AStore) × (store_in bytes.now ≡ Some store) × BlocksStay store (Y.seen yard.old).contents (Y.seen yard.new).contents) }
-    ensures blocks { (store : AStore) → store_in bytes.now ≡ Some store → BlocksStay store (Y.seen yard.old).contents (Y.seen yard.new).contents }
-    ensures said { (text : List ℕ)
-        × Says (printing printer.old.failed (S.taken out.old) (S.faults out.old)) (printing printer.new.failed (S.taken out.new) (S.faults out.new)) text
-        × SaidOfBytes (Y.seen yard.old) (Y.seen yard.new) bytes.now text result }
-    ensures causes { Caused (Y.seen yard.old) (Y.seen yard.new) result }
-    ensures no_source { result ≡ Status.Source → ⊥ }
+        ⊎ ((plan : APlan) × PlansTo bytes.now (Ok plan) × StoresStay plan.stores (Y.seen yard.old).contents (Y.seen yard.new).contents) }
+    ensures said { (text : List ℕ) × Says (printing printer.old.failed (S.taken out.old) (S.faults out.old)) (printing printer.new.failed (S.taken out.new) (S.faults out.new)) text × SaidOfBytes (Y.seen yard.old) (Y.seen yard.new) shows bytes.now text result }
+    ensures refused { FindsNoData (Y.seen yard.old) bytes.now → (Y.seen yard.new).contents ≡ (Y.seen yard.old).contents }
     ensures untouched { result ≢ Status.Good → result ≢ Status.Corrupt → result ≢ Status.Device → result ≢ Status.Yard → result ≢ Status.Sink →
         result ≢ Status.NoMemory → (Y.seen yard.new).contents ≡ (Y.seen yard.old).contents }
-    ensures refused { FindsNoData (Y.seen yard.old) bytes.now → (Y.seen yard.new).contents ≡ (Y.seen yard.old).contents }
+    ensures shows_only { shows ≡ true → ((Y.seen yard.new).contents ≡ (Y.seen yard.old).contents) × ((Y.seen yard.new).disks ≡ (Y.seen yard.old).disks) }
+    ensures yard_fault { result ≡ Status.Yard → Rose (Y.seen yard.old).faults (Y.seen yard.new).faults }
     ensures yard_quiet { result ≢ Status.Yard → result ≢ Status.NoMemory → (Y.seen yard.new).faults ≡ (Y.seen yard.old).faults }
     ensures disk_fault { result ≡ Status.Journal → IsTrue (Y.seen yard.old).tells.keeps_disks → DiskFailed (Y.seen yard.old) (Y.seen yard.new) }
     ensures disk_quiet { result ≢ Status.Journal → result ≢ Status.NoMemory → (path : List ℕ) →
         kept_at (Y.seen yard.new).disks path ≡ kept_at (Y.seen yard.old).disks path }
+    ensures device_fault { result ≡ Status.Device → (path : List ℕ) × Rose (arm_faults (Y.seen yard.old).counts path) (arm_faults (Y.seen yard.new).counts path) }
+    ensures device_quiet { result ≢ Status.Device → result ≢ Status.Yard → result ≢ Status.Sink → result ≢ Status.NoMemory → (path : List ℕ) →
+        arm_faults (Y.seen yard.new).counts path ≡ arm_faults (Y.seen yard.old).counts path }
+    ensures no_usage { result ≡ Status.Usage → ⊥ }
+    ensures no_epoch { result ≡ Status.EpochEnd → ⊥ }
     ensures output { result ≡ Status.Sink → printer.new.failed ≡ true }
+    ensures no_source { result ≡ Status.Source → ⊥ }
 {
-    match store_of_bytes(alloc, bytes) {
-        Ok(Some(store)) => run_store(alloc, yard, &store, printer, out),
-        Ok(None) => {
-            printer.say(out, form_not_built_line());
+    match plan_of_file(alloc, bytes) {
+        Ok(plan) => run_plan(alloc, yard, shows, &plan, printer, out),
+        Err(Unplanned::Refused(line)) => {
+            printer.say(out, line.as_str());
             Status::Parameter
         }
-        Err(_) => Status::NoMemory,
+        Err(Unplanned::NoMemory) => Status::NoMemory,
     }
 }
-
-ghost use Rattle.plan_types.specs.declared.store.StorePlan.{StorePlan as AStore};
-ghost use Rattle.vdbench_top.specs.Still.{SaidOfBytes, Caused, IsHonest, IsStill, Ends};
-ghost use Rattle.run_report.specs.Status.{last_text};
 
 /// A command over a parameter file.
 fn run_file<Y: Yard, S: Sink>(
     alloc: Global,
     yard: &mut Y,
+    shows: bool,
     file: &Text,
     printer: &mut Printer,
     out: &mut S,
 ) -> Status
     ensures keeps { Keeps (Y.seen yard.old) (Y.seen yard.new) }
     ensures journals { JournalsStay (Y.seen yard.old).disks (Y.seen yard.new).disks }
-    ensures contents { ((Y.seen yard.new).contents ≡ (Y.seen yard.old).contents)
-        ⊎ ((bytes : List ℕ) × (store : AStore) × (store_in bytes ≡ Some store) × BlocksStay store (Y.seen yard.old).contents (Y.seen yard.new).contents) }
-    ensures blocks { (parameters : List ℕ) (store : AStore) → (Y.seen yard.old).tells.bytes file.now ≡ Some parameters →
-        store_in (take 1048577 parameters) ≡ Some store → BlocksStay store (Y.seen yard.old).contents (Y.seen yard.new).contents }
-    ensures said { (text : List ℕ)
-        × Says (printing printer.old.failed (S.taken out.old) (S.faults out.old)) (printing printer.new.failed (S.taken out.new) (S.faults out.new)) text
-        × ((parameters : List ℕ) → IsTold (Y.seen yard.old) file.now parameters → IsSaid (Y.seen yard.old) (Y.seen yard.new) file.now parameters text result) }
-    ensures causes { Caused (Y.seen yard.old) (Y.seen yard.new) result }
-    ensures source { result ≡ Status.Source → Rose (source_faults (Y.seen yard.old).counts file.now) (source_faults (Y.seen yard.new).counts file.now) }
+    ensures contents { DataStays (Y.seen yard.old) file.now (Y.seen yard.old).contents (Y.seen yard.new).contents }
+    ensures said { (text : List ℕ) × Says (printing printer.old.failed (S.taken out.old) (S.faults out.old)) (printing printer.new.failed (S.taken out.new) (S.faults out.new)) text × SaidOfFile (Y.seen yard.old) (Y.seen yard.new) shows file.now text result }
+    ensures refused { (parameters : List ℕ) → (Y.seen yard.old).tells.bytes file.now ≡ Some parameters →
+        FindsNoData (Y.seen yard.old) (take 1048577 parameters) → (Y.seen yard.new).contents ≡ (Y.seen yard.old).contents }
+    ensures source_fault { result ≡ Status.Source → Rose (source_faults (Y.seen yard.old).counts file.now) (source_faults (Y.seen yard.new).counts file.now) }
     ensures source_quiet { result ≢ Status.Source → result ≢ Status.NoMemory → (q : List ℕ) →
         source_faults (Y.seen yard.new).counts q ≡ source_faults (Y.seen yard.old).counts q }
     ensures untouched { result ≢ Status.Good → result ≢ Status.Corrupt → result ≢ Status.Device → result ≢ Status.Yard → result ≢ Status.Sink →
         result ≢ Status.NoMemory → (Y.seen yard.new).contents ≡ (Y.seen yard.old).contents }
-    ensures refused { (parameters : List ℕ) → (Y.seen yard.old).tells.bytes file.now ≡ Some parameters →
-        FindsNoData (Y.seen yard.old) (take 1048577 parameters) → (Y.seen yard.new).contents ≡ (Y.seen yard.old).contents }
+    ensures shows_only { shows ≡ true → ((Y.seen yard.new).contents ≡ (Y.seen yard.old).contents) × ((Y.seen yard.new).disks ≡ (Y.seen yard.old).disks) }
+    ensures yard_fault { result ≡ Status.Yard → Rose (Y.seen yard.old).faults (Y.seen yard.new).faults }
     ensures yard_quiet { result ≢ Status.Yard → result ≢ Status.NoMemory → (Y.seen yard.new).faults ≡ (Y.seen yard.old).faults }
     ensures disk_fault { result ≡ Status.Journal → IsTrue (Y.seen yard.old).tells.keeps_disks → DiskFailed (Y.seen yard.old) (Y.seen yard.new) }
     ensures disk_quiet { result ≢ Status.Journal → result ≢ Status.NoMemory → (path : List ℕ) →
         kept_at (Y.seen yard.new).disks path ≡ kept_at (Y.seen yard.old).disks path }
+    ensures device_fault { result ≡ Status.Device → (path : List ℕ) × Rose (arm_faults (Y.seen yard.old).counts path) (arm_faults (Y.seen yard.new).counts path) }
+    ensures device_quiet { result ≢ Status.Device → result ≢ Status.Yard → result ≢ Status.Sink → result ≢ Status.NoMemory → (path : List ℕ) →
+        arm_faults (Y.seen yard.new).counts path ≡ arm_faults (Y.seen yard.old).counts path }
+    ensures no_usage { result ≡ Status.Usage → ⊥ }
+    ensures no_epoch { result ≡ Status.EpochEnd → ⊥ }
     ensures output { result ≡ Status.Sink → printer.new.failed ≡ true }
 {
     match read_file(alloc, yard, file) {
-        Ok(bytes) => run_parameters(alloc, yard, bytes.as_slice(), printer, out),
+        Ok(bytes) => run_parameters(alloc, yard, shows, bytes.as_slice(), printer, out),
         Err(Unread::Yard) => say_line(cannot_open_line(alloc, file), Status::Yard, printer, out),
         Err(Unread::Source) => say_line(
             cannot_read_line(alloc, file),
@@ -285,37 +166,39 @@ fn run_file<Y: Yard, S: Sink>(
 fn run_named<Y: Yard, S: Sink>(
     alloc: Global,
     yard: &mut Y,
+    shows: bool,
     name: &str,
     printer: &mut Printer,
     out: &mut S,
 ) -> Status
     ensures keeps { Keeps (Y.seen yard.old) (Y.seen yard.new) }
     ensures journals { JournalsStay (Y.seen yard.old).disks (Y.seen yard.new).disks }
-    ensures contents { ((Y.seen yard.new).contents ≡ (Y.seen yard.old).contents)
-        ⊎ ((bytes : List ℕ) × (store : AStore) × (store_in bytes ≡ Some store) × BlocksStay store (Y.seen yard.old).contents (Y.seen yard.new).contents) }
-    ensures blocks { (parameters : List ℕ) (store : AStore) → (Y.seen yard.old).tells.bytes name.now ≡ Some parameters →
-        store_in (take 1048577 parameters) ≡ Some store → BlocksStay store (Y.seen yard.old).contents (Y.seen yard.new).contents }
-    ensures said { (text : List ℕ)
-        × Says (printing printer.old.failed (S.taken out.old) (S.faults out.old)) (printing printer.new.failed (S.taken out.new) (S.faults out.new)) text
-        × ((parameters : List ℕ) → IsTold (Y.seen yard.old) name.now parameters → IsSaid (Y.seen yard.old) (Y.seen yard.new) name.now parameters text result) }
-    ensures causes { Caused (Y.seen yard.old) (Y.seen yard.new) result }
-    ensures source { result ≡ Status.Source → Rose (source_faults (Y.seen yard.old).counts name.now) (source_faults (Y.seen yard.new).counts name.now) }
+    ensures contents { DataStays (Y.seen yard.old) name.now (Y.seen yard.old).contents (Y.seen yard.new).contents }
+    ensures said { (text : List ℕ) × Says (printing printer.old.failed (S.taken out.old) (S.faults out.old)) (printing printer.new.failed (S.taken out.new) (S.faults out.new)) text × SaidOfFile (Y.seen yard.old) (Y.seen yard.new) shows name.now text result }
+    ensures refused { (parameters : List ℕ) → (Y.seen yard.old).tells.bytes name.now ≡ Some parameters →
+        FindsNoData (Y.seen yard.old) (take 1048577 parameters) → (Y.seen yard.new).contents ≡ (Y.seen yard.old).contents }
+    ensures source_fault { result ≡ Status.Source → Rose (source_faults (Y.seen yard.old).counts name.now) (source_faults (Y.seen yard.new).counts name.now) }
     ensures source_quiet { result ≢ Status.Source → result ≢ Status.NoMemory → (q : List ℕ) →
         source_faults (Y.seen yard.new).counts q ≡ source_faults (Y.seen yard.old).counts q }
     ensures untouched { result ≢ Status.Good → result ≢ Status.Corrupt → result ≢ Status.Device → result ≢ Status.Yard → result ≢ Status.Sink →
         result ≢ Status.NoMemory → (Y.seen yard.new).contents ≡ (Y.seen yard.old).contents }
-    ensures refused { (parameters : List ℕ) → (Y.seen yard.old).tells.bytes name.now ≡ Some parameters →
-        FindsNoData (Y.seen yard.old) (take 1048577 parameters) → (Y.seen yard.new).contents ≡ (Y.seen yard.old).contents }
+    ensures shows_only { shows ≡ true → ((Y.seen yard.new).contents ≡ (Y.seen yard.old).contents) × ((Y.seen yard.new).disks ≡ (Y.seen yard.old).disks) }
+    ensures yard_fault { result ≡ Status.Yard → Rose (Y.seen yard.old).faults (Y.seen yard.new).faults }
     ensures yard_quiet { result ≢ Status.Yard → result ≢ Status.NoMemory → (Y.seen yard.new).faults ≡ (Y.seen yard.old).faults }
     ensures disk_fault { result ≡ Status.Journal → IsTrue (Y.seen yard.old).tells.keeps_disks → DiskFailed (Y.seen yard.old) (Y.seen yard.new) }
     ensures disk_quiet { result ≢ Status.Journal → result ≢ Status.NoMemory → (path : List ℕ) →
         kept_at (Y.seen yard.new).disks path ≡ kept_at (Y.seen yard.old).disks path }
+    ensures device_fault { result ≡ Status.Device → (path : List ℕ) × Rose (arm_faults (Y.seen yard.old).counts path) (arm_faults (Y.seen yard.new).counts path) }
+    ensures device_quiet { result ≢ Status.Device → result ≢ Status.Yard → result ≢ Status.Sink → result ≢ Status.NoMemory → (path : List ℕ) →
+        arm_faults (Y.seen yard.new).counts path ≡ arm_faults (Y.seen yard.old).counts path }
+    ensures no_usage { result ≡ Status.Usage → ⊥ }
+    ensures no_epoch { result ≡ Status.EpochEnd → ⊥ }
     ensures output { result ≡ Status.Sink → printer.new.failed ≡ true }
 {
     let Ok(file) = Text::from_str(alloc, name) else {
         return Status::NoMemory;
     };
-    run_file(alloc, yard, &file, printer, out)
+    run_file(alloc, yard, shows, &file, printer, out)
 }
 
 /// Says the last lines, and answers the status that the command ends with.
@@ -331,9 +214,9 @@ fn end<S: Sink>(status: Status, printer: &mut Printer, out: &mut S) -> Status
     status
 }
 
-/// A still command: it runs a schedule, or recovers the journal of the store that its parameter file names, verifies the store, and prints
-/// what is found. It writes no journal, and no block's bytes change. `words` are those after the program's name. It answers the status
-/// that the command ends with.
+/// A still command: it runs a schedule; prints the plan of its parameter file; or recovers the journals of that plan's stores, verifies
+/// the stores, and prints what is found. It writes no journal, and no block's bytes change. `words` are those after the program's name.
+/// It answers the status that the command ends with.
 pub fn vdbench_still<Y: Yard, S: Sink>(
     alloc: Global,
     words: &[String],
@@ -344,17 +227,15 @@ pub fn vdbench_still<Y: Yard, S: Sink>(
     ensures keeps { Keeps (Y.seen yard.old) (Y.seen yard.new) }
     ensures journals { JournalsStay (Y.seen yard.old).disks (Y.seen yard.new).disks }
 
-    // Words that name no file leave all as it was.
+    // Words that name no file leave all as it was. A plan that is only printed leaves data and journals' disks as they were.
     ensures no_file { file_of (map string_bytes words.now) ≡ None → Y.seen yard.new ≡ Y.seen yard.old }
+    ensures shows_only { shows_plan_of (map string_bytes words.now) ≡ true → ((Y.seen yard.new).contents ≡ (Y.seen yard.old).contents) × ((Y.seen yard.new).disks ≡ (Y.seen yard.old).disks) }
 
-    // At most one path's data is touched, that of a store which a parameter file of some bytes names, and each block of that store has the
-    // bytes that it had. Where the parameter file is told, it is its store. None is touched where that file has no form that is read or its
-    // store's journal is refused, however the command ends, nor with a status that comes before data is opened.
-    ensures contents { ((Y.seen yard.new).contents ≡ (Y.seen yard.old).contents)
-        ⊎ ((bytes : List ℕ) × (store : AStore) × (store_in bytes ≡ Some store) × BlocksStay store (Y.seen yard.old).contents (Y.seen yard.new).contents) }
-    ensures blocks { (file parameters : List ℕ) (store : AStore) → file_of (map string_bytes words.now) ≡ Some file →
-        (Y.seen yard.old).tells.bytes file ≡ Some parameters → store_in (take 1048577 parameters) ≡ Some store →
-        BlocksStay store (Y.seen yard.old).contents (Y.seen yard.new).contents }
+    // No data is touched but that of the stores of a plan which the parameter file gives, as far as it is told, and each block of these has
+    // the bytes that it had. None is touched where that file, as told, has no plan or a journal of it is told to be missing or refused,
+    // however the command ends, nor with a status that only comes before data is opened.
+    ensures contents { (file : List ℕ) → file_of (map string_bytes words.now) ≡ Some file →
+        DataStays (Y.seen yard.old) file (Y.seen yard.old).contents (Y.seen yard.new).contents }
     ensures refused { (file parameters : List ℕ) → file_of (map string_bytes words.now) ≡ Some file →
         (Y.seen yard.old).tells.bytes file ≡ Some parameters → FindsNoData (Y.seen yard.old) (take 1048577 parameters) →
         (Y.seen yard.new).contents ≡ (Y.seen yard.old).contents }
@@ -362,31 +243,31 @@ pub fn vdbench_still<Y: Yard, S: Sink>(
         result ≢ Status.NoMemory → (Y.seen yard.new).contents ≡ (Y.seen yard.old).contents }
 
     // Words that are no command print the usage, and nothing else ends so.
-    ensures usage { command_said (map string_bytes words.now) ≡ None → Ends usage_text Status.Usage result (S.taken out.old) (S.taken out.new) }
-    ensures usage_only { result ≡ Status.Usage → command_said (map string_bytes words.now) ≡ None }
+    ensures usage { command_built (map string_bytes words.now) ≡ None → Ends usage_text Status.Usage result (S.taken out.old) (S.taken out.new) }
+    ensures usage_only { result ≡ Status.Usage → command_built (map string_bytes words.now) ≡ None }
 
     // A schedule that the words ask for is run, and its counts are printed.
     ensures simulation { (n : ℕ) → steps_of (map string_bytes words.now) ≡ Some n →
         (text : List ℕ) × (said : AStatus) × IsSimulated n text said × Ends text said result (S.taken out.old) (S.taken out.new) }
 
+    // Over a parameter file the text and the status are those of what is found, as far as it is told, or of the outside call that failed,
+    // and what was opened is what that says.
+    ensures told { (file : List ℕ) → file_of (map string_bytes words.now) ≡ Some file →
+        (text : List ℕ) × (said : AStatus) × SaidOfFile (Y.seen yard.old) (Y.seen yard.new) (shows_plan_of (map string_bytes words.now)) file text said
+        × Ends text said result (S.taken out.old) (S.taken out.new) }
+
+    // Where besides nothing outside fails, they are those of what is found.
+    ensures answer { (file : List ℕ) → file_of (map string_bytes words.now) ≡ Some file → IsHonest (Y.seen yard.old) (Y.seen yard.new) (shows_plan_of (map string_bytes words.now)) file →
+        (text : List ℕ) × (said : AStatus) × SaidOfFile (Y.seen yard.old) (Y.seen yard.new) (shows_plan_of (map string_bytes words.now)) file text said × IsNoFault said
+        × Ends text said result (S.taken out.old) (S.taken out.new) }
+
     // It ends by the lines of its status, whatever it had to say before; none is that an epoch ended.
     ensures ends { (text : List ℕ) × (said : AStatus) × Ends text said result (S.taken out.old) (S.taken out.new) }
     ensures no_epoch { result ≡ Status.EpochEnd → ⊥ }
 
-    // Where the parameter file and the journal are told, the text and the status are those of what is found, or of the outside call
-    // that failed.
-    ensures told { (file parameters : List ℕ) → file_of (map string_bytes words.now) ≡ Some file → IsTold (Y.seen yard.old) file parameters →
-        (text : List ℕ) × (said : AStatus) × IsSaid (Y.seen yard.old) (Y.seen yard.new) file parameters text said
-        × Ends text said result (S.taken out.old) (S.taken out.new) }
-
-    // Where besides nothing outside fails, they are those of what is found.
-    ensures answer { (file parameters : List ℕ) → file_of (map string_bytes words.now) ≡ Some file → IsTold (Y.seen yard.old) file parameters →
-        IsHonest (Y.seen yard.old) (Y.seen yard.new) file parameters →
-        (text : List ℕ) × (said : AStatus) × IsStill (Y.seen yard.old) (Y.seen yard.new) parameters text said
-        × Ends text said result (S.taken out.old) (S.taken out.new) }
-
     // Each status of an outside fault has its cause, over whatever yard and output, and with each other status, want of memory and a failed
-    // output aside, nothing of that kind failed. A disk's faults are seen where the yard keeps it.
+    // output aside, nothing of that kind failed; that the yard refused to open something may hide that an arm failed before, which the text
+    // then tells. A disk's faults are seen where the yard keeps it.
     ensures yard_fault { result ≡ Status.Yard → Rose (Y.seen yard.old).faults (Y.seen yard.new).faults }
     ensures yard_quiet { result ≢ Status.Yard → result ≢ Status.Sink → result ≢ Status.NoMemory → (Y.seen yard.new).faults ≡ (Y.seen yard.old).faults }
     ensures source_fault { result ≡ Status.Source → (file : List ℕ) → file_of (map string_bytes words.now) ≡ Some file →
@@ -397,7 +278,7 @@ pub fn vdbench_still<Y: Yard, S: Sink>(
     ensures disk_quiet { result ≢ Status.Journal → result ≢ Status.Sink → result ≢ Status.NoMemory → (path : List ℕ) →
         kept_at (Y.seen yard.new).disks path ≡ kept_at (Y.seen yard.old).disks path }
     ensures device_fault { result ≡ Status.Device → (path : List ℕ) × Rose (arm_faults (Y.seen yard.old).counts path) (arm_faults (Y.seen yard.new).counts path) }
-    ensures device_quiet { result ≢ Status.Device → result ≢ Status.Sink → result ≢ Status.NoMemory → (path : List ℕ) →
+    ensures device_quiet { result ≢ Status.Device → result ≢ Status.Yard → result ≢ Status.Sink → result ≢ Status.NoMemory → (path : List ℕ) →
         arm_faults (Y.seen yard.new).counts path ≡ arm_faults (Y.seen yard.old).counts path }
     ensures sink_fault { result ≡ Status.Sink → Rose (S.faults out.old) (S.faults out.new) }
     ensures sink_quiet { result ≢ Status.Sink → S.faults out.new ≡ S.faults out.old }
@@ -407,11 +288,14 @@ pub fn vdbench_still<Y: Yard, S: Sink>(
         let status = run_without_file(alloc, words, &mut printer, out);
         return end(status, &mut printer, out);
     };
-    let status = run_named(alloc, yard, name, &mut printer, out);
+    let status = run_named(alloc, yard, shows_plan(words), name, &mut printer, out);
     end(status, &mut printer, out)
 }
 
+ghost use Rattle.std.specs.Prelude.{◌⊎◌};
+ghost use Rattle.run_report.specs.Says.{SaysFront};
+ghost use Rattle.run_report.specs.Plans.{plan_text};
 ghost use Rattle.run_report.specs.declared.status.Status.{Status as AStatus};
 ghost use Rattle.run_report.specs.Lines.{usage_text};
-ghost use Rattle.vdbench_top.specs.Words.{file_of, steps_of, command_said};
+ghost use Rattle.vdbench_top.specs.Words.{command_built, file_of, shows_plan as shows_plan_of, steps_of};
 ghost use Rattle.vdbench_top.specs.Simulation.{IsSimulated};

@@ -1,104 +1,88 @@
-// The words of a command.
-ghost use Rattle.std.specs.Prelude.{◌≡◌, IsTrue, map, min, string_bytes};
-ghost use Rattle.std.specs.List.{list_all};
+// What the words of a command ask for, of what is built so far.
+ghost use Rattle.std.specs.Prelude.{◌≡◌, IfSome, Some, None, map, string_bytes, length};
 ghost use Rattle.std.specs.Option.{option_map};
-ghost use Rattle.vdbench_top.specs.Words.{file_of, steps_of, up_to_most, command_said, is_file_name as is_name, is_digit as may_stand, is_number as is_number_text};
-ghost use Rattle.vdbench_top.specs.Form.{number_in};
+ghost use Rattle.vdbench_top.specs.Words.{command_built, file_of, is_show as shows_mode, is_still as still_mode, name_at as name_at_word, name_in as name_in_word, shows_plan as plan_shown, steps_of};
 
-use crate::{Command, Mode};
+use command_words::{Command, Mode};
 
-fn is_file_name(name: &str) -> bool
-    ensures { result ≡ is_name name.now }
+fn is_still(mode: Mode) -> bool
+    ensures { result ≡ still_mode mode }
 {
-    !name.is_empty() && !name.starts_with("-")
+    match mode {
+        Mode::Show | Mode::RecoverOnly => true,
+        Mode::Simulate(_) => true,
+        Mode::Validate | Mode::Journal | Mode::Recover => false,
+    }
 }
 
-/// The name of the parameter file, where the words are a command.
+/// The command that the words say, of those that are built: `-s`, `-jro` and `-sim`. None for all other words.
+pub fn command_of(words: &[String]) -> Option<Command>
+    ensures built { result ≡ command_built (map string_bytes words.now) }
+    // Each command has a parameter file or a number of steps.
+    ensures asks { file_of (map string_bytes words.now) ≡ None → steps_of (map string_bytes words.now) ≡ None → command_built (map string_bytes words.now) ≡ None }
+{
+    let command = command_words::command_of(words)?;
+    if is_still(command.mode) {
+        Some(command)
+    } else {
+        None
+    }
+}
+
+/// The parameter file's name in the word that names it: joined to `-f`, or alone.
+fn name_in(word: &str) -> &str
+    ensures { result.now ≡ name_in_word word.now }
+{
+    word.strip_prefix("-f").unwrap_or(word)
+}
+
+/// The parameter file's name in the word at this place.
+fn name_at(words: &[String], file: Option<u32>) -> Option<&str>
+    ensures { option_map (λ name. name.now) result ≡ name_at_word (map string_bytes words.now) file }
+{
+    let at = file?;
+    let word = words.get(at as usize)?;
+    Some(name_in(word.as_str()))
+}
+
+/// The name of the parameter file, where the words are a command over one.
 pub fn file_of_words(words: &[String]) -> Option<&str>
-    ensures { option_map (λ name. name.now) result ≡ file_of (map string_bytes words.now) }
+    ensures file { option_map (λ name. name.now) result ≡ file_of (map string_bytes words.now) }
+    ensures asks { file_of (map string_bytes words.now) ≡ None → steps_of (map string_bytes words.now) ≡ None → command_built (map string_bytes words.now) ≡ None }
 {
-    let [mode, flag, name] = words else {
-        return None;
-    };
-    if mode.as_str() == "-jro" && flag.as_str() == "-f" && is_file_name(name.as_str()) {
-        Some(name.as_str())
-    } else {
-        None
+    let command = command_of(words)?;
+    match command.mode {
+        Mode::Show | Mode::RecoverOnly => name_at(words, command.file),
+        Mode::Simulate(_) => None,
+        Mode::Validate | Mode::Journal | Mode::Recover => None,
     }
 }
 
-fn is_digit(b: u8) -> bool
-    ensures { result ≡ may_stand b }
-{
-    48 <= b && b <= 57
-}
-
-fn are_digits(text: &[u8]) -> bool
-    ensures { result ≡ list_all may_stand text.now }
-{
-    text.iter().all(|b| is_digit(*b))
-}
-
-fn is_number(text: &[u8]) -> bool
-    ensures { result ≡ is_number_text text.now }
-{
-    1 <= text.len() && text.len() <= 20 && are_digits(text)
-}
-
-/// The number that digits spell, or 1,000,001 where it is greater.
-fn number_of(digits: &[u8]) -> u32
-    ensures { result ≡ min (number_in digits.now) 1000001 }
-{
-    let mut number = 0;
-    for digit in digits {
-        number = (10 * number + digit.saturating_sub(48) as u32).min(1_000_001);
-    }
-    number
-}
-
-fn steps_in(digits: &[u8]) -> Option<u32>
-    ensures { result ≡ up_to_most (number_in digits.now) }
-{
-    let number = number_of(digits);
-    if number <= 1_000_000 {
-        Some(number)
-    } else {
-        None
-    }
-}
-
-/// The number of steps of a schedule, where the words ask for one.
+/// The number of steps, where the words ask for a schedule.
 pub fn steps_of_words(words: &[String]) -> Option<u32>
     ensures { result ≡ steps_of (map string_bytes words.now) }
 {
-    let [mode, number] = words else {
-        return None;
-    };
-    if mode.as_str() == "-sim" && is_number(number.as_bytes()) {
-        steps_in(number.as_bytes())
-    } else {
-        None
+    match command_of(words)?.mode {
+        Mode::Simulate(steps) => Some(steps),
+        _ => None,
     }
 }
 
-/// The command that the words say: `-jro`, `-f` and the name of a parameter file, which isn't empty and doesn't begin with `-`; or
-/// `-sim` and a number up to 1,000,000.
-pub fn command_of(words: &[String]) -> Option<Command>
-    ensures { result ≡ command_said (map string_bytes words.now) }
+fn is_show(mode: Mode) -> bool
+    ensures { result ≡ shows_mode mode }
 {
-    match file_of_words(words) {
-        Some(_) => Some(Command {
-            mode: Mode::RecoverOnly,
-            reread: false,
-            file: Some(2),
-        }),
-        None => match steps_of_words(words) {
-            Some(steps) => Some(Command {
-                mode: Mode::Simulate(steps),
-                reread: false,
-                file: None,
-            }),
-            None => None,
-        },
+    match mode {
+        Mode::Show => true,
+        _ => false,
+    }
+}
+
+/// Whether the words ask for the plan.
+pub fn shows_plan(words: &[String]) -> bool
+    ensures { result ≡ plan_shown (map string_bytes words.now) }
+{
+    match command_of(words) {
+        Some(command) => is_show(command.mode),
+        None => false,
     }
 }
