@@ -1,7 +1,8 @@
 // The right to one block, and one worker's way to a device.
-ghost use Rattle.std.specs.Prelude.{◌≡◌, List, ℕ, Some, OnOk, length};
+ghost use Rattle.std.specs.Prelude.{◌≡◌, ◌≤◌, List, ℕ, Some, OnErr, OnOk, length, map};
 ghost use Rattle.vd_outside.specs.Causes.{HasCause, StaysSure};
 ghost use Rattle.vd_arm.specs.Arm.{PassSeen, ArmSeen, Reads};
+ghost use Rattle.vd_arm.specs.Transfers.{IsTransfer, SameBlocks, TellParts, TookParts, TornParts, Writes};
 
 use vd_base::BlockNo;
 use vd_outside::Failed;
@@ -33,5 +34,28 @@ pub trait Arm: Drop + Send {
         ensures gives { (bytes : List ℕ) → (Self.Pass.seen pass.now).told ≡ Some bytes → OnOk result (out.new ≡ bytes) }
         ensures cause { HasCause (seen self.old).faults (seen self.new).faults result }
         ensures counts { Reads 1 (seen self.old) (seen self.new) result }
+        ensures sure { StaysSure (seen self.old).sure (seen self.new).sure (seen self.old).faults (seen self.new).faults };
+
+    /// Reads 1 to 64 blocks one after another into a slice that has the bytes of all of them. It leaves the passes as they are; a
+    /// failed read leaves `out` unsaid.
+    fn read_run(&mut self, passes: &mut [Self::Pass], out: &mut [u8]) -> Result<(), Failed>
+        requires many { (1 ≤ length passes.old) × (length passes.old ≤ 64) }
+        requires transfer { IsTransfer (map Self.Pass.seen passes.old) (length out.old) }
+        ensures same { passes.new ≡ passes.old }
+        ensures gives { OnOk result (TellParts (map Self.Pass.seen passes.old) out.new) }
+        ensures cause { HasCause (seen self.old).faults (seen self.new).faults result }
+        ensures counts { Reads (length passes.old) (seen self.old) (seen self.new) result }
+        ensures sure { StaysSure (seen self.old).sure (seen self.new).sure (seen self.old).faults (seen self.new).faults };
+
+    /// Writes 1 to 64 blocks one after another, from a slice that has the bytes of all of them. After Ok each pass that tells tells its
+    /// part of the bytes; after a failed write each sector is the old one or that of the bytes.
+    fn write_run(&mut self, passes: &mut [Self::Pass], bytes: &[u8]) -> Result<(), Failed>
+        requires many { (1 ≤ length passes.old) × (length passes.old ≤ 64) }
+        requires transfer { IsTransfer (map Self.Pass.seen passes.old) (length bytes.now) }
+        ensures blocks { SameBlocks (map Self.Pass.seen passes.old) (map Self.Pass.seen passes.new) }
+        ensures written { OnOk result (TookParts bytes.now (map Self.Pass.seen passes.old) (map Self.Pass.seen passes.new)) }
+        ensures torn { OnErr result (TornParts bytes.now (map Self.Pass.seen passes.old) (map Self.Pass.seen passes.new)) }
+        ensures cause { HasCause (seen self.old).faults (seen self.new).faults result }
+        ensures counts { Writes (length passes.old) (seen self.old) (seen self.new) result }
         ensures sure { StaysSure (seen self.old).sure (seen self.new).sure (seen self.old).faults (seen self.new).faults };
 }

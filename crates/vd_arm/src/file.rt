@@ -97,6 +97,31 @@ impl Arm for FileArm {
             }
         }
     }
+
+    fn read_run(&mut self, passes: &mut [FilePass], out: &mut [u8]) -> Result<(), Failed> {
+        let place = passes[0].block.0 as u64 * passes[0].size as u64;
+        if self.file.read_exact_at(out, place).is_err() {
+            self.faults = self.faults.saturating_add(1);
+            return Err(Failed);
+        }
+        self.good_reads = self.good_reads.wrapping_add(passes.len() as u64);
+        Ok(())
+    }
+
+    fn write_run(&mut self, passes: &mut [FilePass], bytes: &[u8]) -> Result<(), Failed> {
+        let place = passes[0].block.0 as u64 * passes[0].size as u64;
+        if !is_written(&self.file, bytes, place) {
+            self.faults = self.faults.saturating_add(1);
+            return Err(Failed);
+        }
+        self.good_writes = self.good_writes.wrapping_add(passes.len() as u64);
+        Ok(())
+    }
+}
+
+/// Writes at a place of a file, and then asks that what was written is on the device.
+fn is_written(file: &File, bytes: &[u8], place: u64) -> bool {
+    file.write_all_at(bytes, place).is_ok() && file.sync_data().is_ok()
 }
 
 #[cfg(test)]
@@ -125,6 +150,31 @@ mod tests {
             (arm.faults(), arm.good_reads(), arm.good_writes()),
             (1, 2, 0)
         );
+        fs::remove_file(&rt, path).expect(&rt, "the file that was just made");
+    }
+
+    #[test]
+    fn runs_are_written_at_their_places(rt: HostRuntime) {
+        let path = env::temp_dir(&rt)
+            .expect(&rt, "a folder for temporary files")
+            .join(rt.alloc(), "vd_arm_file_run_test")
+            .expect(&rt, "memory");
+        let path = path.as_str();
+        fs::write(&rt, path, b"aaaabbbbccccdddd").expect(&rt, "a folder for temporary files");
+        let file = File::options()
+            .read(true)
+            .write(true)
+            .open(&rt, path)
+            .expect(&rt, "the file that was just made");
+        let mut arm = FileArm::new(file);
+        let mut passes = [FilePass::new(BlockNo(1), 4), FilePass::new(BlockNo(2), 4)];
+        let mut out = [0; 8];
+        assert!(rt; arm.write_run(&mut passes, b"BBBBCCCC").is_ok());
+        assert!(rt; arm.read_run(&mut passes, &mut out).is_ok());
+        assert_eq!(rt; &out, b"BBBBCCCC");
+        let whole = fs::read(&rt, path).expect(&rt, "the file that was just made");
+        assert_eq!(rt; whole.as_slice(), b"aaaaBBBBCCCCdddd".as_slice());
+        assert_eq!(rt; (arm.good_reads(), arm.good_writes()), (2, 2));
         fs::remove_file(&rt, path).expect(&rt, "the file that was just made");
     }
 }

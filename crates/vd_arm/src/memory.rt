@@ -1,7 +1,13 @@
 // Passes and an arm in memory.
-ghost use Rattle.std.specs.Prelude.{◌≡◌, Some, false, length};
+ghost use Rattle.std.specs.Prelude.{◌≡◌, ◌*◌, ◌+◌, ◌++◌, ◌/◌, ◌<◌, ◌≤◌, Some, drop, false, length, map, take, ℕ};
+ghost use Rattle.vd_arm.specs.Held.{TookSectors};
+ghost use Rattle.vd_arm.specs.Addressed.{addressed};
+ghost use Rattle.vd_arm.specs.MemArm.{mem_pass_held, mem_pass_seen};
+ghost use Rattle.vd_arm.specs.Transfers.{SameBlocks, TellParts, TookParts, sector_in};
+ghost use Rattle.vd_outside.specs.Causes.{Rose};
 ghost use Rattle.vd_outside.specs.Streams.{is_empty};
 
+use crate::runs::{Holder, read_each, write_each, write_first_sectors};
 use crate::{Arm, Pass};
 use vd_base::BlockNo;
 use vd_outside::Failed;
@@ -34,6 +40,57 @@ impl MemPass {
     {
         &self.bytes
     }
+
+    /// Puts the address of the first sector, and of each that follows, into the sectors' bytes 0 to 7.
+    pub(crate) fn put_addresses(&mut self, address: u64)
+        ensures block { (mem_pass_held self.new).block ≡ (mem_pass_held self.old).block }
+        ensures many { length (mem_pass_held self.new).bytes ≡ length (mem_pass_held self.old).bytes }
+        ensures each { (j : ℕ) → j < length (mem_pass_held self.old).bytes / 512 →
+            sector_in (mem_pass_held self.new).bytes j ≡ addressed (address + 512 * j) (sector_in (mem_pass_held self.old).bytes j) }
+    {
+        put_addresses(&mut self.bytes, address);
+    }
+}
+
+impl Holder for MemPass {
+    ghost use Rattle.vd_arm.specs.MemArm.{mem_pass_held};
+
+    ghost held = { mem_pass_held };
+
+    fn held_bytes(&self) -> &[u8] {
+        &self.bytes
+    }
+
+    fn put(&mut self, bytes: &[u8]) {
+        self.bytes.copy_from_slice(bytes);
+    }
+
+    fn put_front(&mut self, bytes: &[u8], end: usize) {
+        copy_front(&mut self.bytes, bytes, end);
+    }
+}
+
+/// Puts the address of the first sector, and of each that follows, into the sectors' bytes 0 to 7.
+fn put_addresses(bytes: &mut [u8], address: u64)
+    ensures many { length bytes.new ≡ length bytes.old }
+    ensures each { (j : ℕ) → j < length bytes.old / 512 → sector_in bytes.new j ≡ addressed (address + 512 * j) (sector_in bytes.old j) }
+{
+    if bytes.len() < 512 {
+        return;
+    }
+    let (sector, rest) = bytes.split_at_mut(512);
+    let (head, _) = sector.split_at_mut(8);
+    head.copy_from_slice(&address.to_be_bytes());
+    put_addresses(rest, address.wrapping_add(512));
+}
+
+/// Copies the first bytes of others, of which there are as many.
+fn copy_front(out: &mut [u8], bytes: &[u8], end: usize)
+    requires long { length bytes.now ≡ length out.old }
+    requires within { end ≤ length out.old }
+    ensures { out.new ≡ take end bytes.now ++ drop end out.old }
+{
+    out[..end].copy_from_slice(&bytes[..end]);
 }
 
 impl Pass for MemPass {
@@ -60,7 +117,7 @@ pub struct MemArm {
 }
 
 impl MemArm {
-    ghost use Rattle.vd_arm.specs.MemArm.{calls_of, fails_now, mem_arm_seen, one_more};
+    ghost use Rattle.vd_arm.specs.MemArm.{calls_of, fails_now, mem_arm_seen, one_more, torn_now};
 
     /// An arm whose calls with these first numbers fail, counted from 0. The second number is that of first sectors that a failed
     /// write changes.
@@ -124,12 +181,35 @@ impl MemArm {
         self.calls = call.saturating_add(1);
         self.failing.iter().any(|(number, _)| *number == call)
     }
+
+    /// Counts a fault.
+    fn fault(&mut self) -> Failed
+        ensures later { (mem_arm_seen self.old).faults ≤ (mem_arm_seen self.new).faults }
+        ensures rose { Rose (mem_arm_seen self.old).faults (mem_arm_seen self.new).faults }
+        ensures others { mem_arm_seen self.new ≡ record (mem_arm_seen self.old) { faults = (mem_arm_seen self.new).faults } }
+        ensures calls { calls_of self.new ≡ calls_of self.old }
+    {
+        self.faults = self.faults.saturating_add(1);
+        Failed
+    }
+
+    /// How many first sectors the next call changes, where it is a write and fails.
+    fn next_torn(&self) -> u32
+        ensures { result ≡ torn_now (calls_of self.now) }
+    {
+        let call = self.calls;
+        match self.failing.iter().find(|(number, _)| *number == call) {
+            Some((_, sectors)) => *sectors,
+            None => 0,
+        }
+    }
 }
 
 impl Arm for MemArm {
-    ghost use Rattle.std.specs.Prelude.{◌↔◌, IsErr, IsTrue, List, OnOk, ℕ};
+    ghost use Rattle.std.specs.Prelude.{◌↔◌, IsErr, IsTrue, List, OnErr, OnOk, ℕ};
     ghost use Rattle.vd_arm.specs.Arm.{Reads};
-    ghost use Rattle.vd_arm.specs.MemArm.{calls_of, fails_now, mem_arm_seen, one_more};
+    ghost use Rattle.vd_arm.specs.MemArm.{calls_of, fails_now, mem_arm_seen, one_more, torn_now};
+    ghost use Rattle.vd_arm.specs.Transfers.{IsTransfer, TornParts, Writes};
     ghost use Rattle.vd_outside.specs.Causes.{HasCause, StaysSure};
 
     type Pass = MemPass;
@@ -146,11 +226,55 @@ impl Arm for MemArm {
         ensures calls { calls_of self.new ≡ one_more (calls_of self.old) }
     {
         if self.next_fails() {
-            self.faults = self.faults.saturating_add(1);
-            return Err(Failed);
+            return Err(self.fault());
         }
         out.copy_from_slice(&pass.bytes);
         self.good_reads = self.good_reads.wrapping_add(1);
+        Ok(())
+    }
+
+    fn read_run(&mut self, passes: &mut [MemPass], out: &mut [u8]) -> Result<(), Failed>
+        requires many { (1 ≤ length passes.old) × (length passes.old ≤ 64) }
+        requires transfer { IsTransfer (map mem_pass_seen passes.old) (length out.old) }
+        ensures same { passes.new ≡ passes.old }
+        ensures gives { OnOk result (TellParts (map mem_pass_seen passes.old) out.new) }
+        ensures cause { HasCause (mem_arm_seen self.old).faults (mem_arm_seen self.new).faults result }
+        ensures counts { Reads (length passes.old) (mem_arm_seen self.old) (mem_arm_seen self.new) result }
+        ensures sure { StaysSure (mem_arm_seen self.old).sure (mem_arm_seen self.new).sure (mem_arm_seen self.old).faults (mem_arm_seen self.new).faults }
+        ensures fails { IsErr result ↔ IsTrue (fails_now (calls_of self.old)) }
+        ensures calls { calls_of self.new ≡ one_more (calls_of self.old) }
+    {
+        if self.next_fails() {
+            return Err(self.fault());
+        }
+        let size = passes[0].bytes.len();
+        read_each(passes, size, out);
+        self.good_reads = self.good_reads.wrapping_add(passes.len() as u64);
+        Ok(())
+    }
+
+    /// A failed write changes so many first sectors of the run as the listed pair says.
+    fn write_run(&mut self, passes: &mut [MemPass], bytes: &[u8]) -> Result<(), Failed>
+        requires many { (1 ≤ length passes.old) × (length passes.old ≤ 64) }
+        requires transfer { IsTransfer (map mem_pass_seen passes.old) (length bytes.now) }
+        ensures blocks { SameBlocks (map mem_pass_seen passes.old) (map mem_pass_seen passes.new) }
+        ensures written { OnOk result (TookParts bytes.now (map mem_pass_seen passes.old) (map mem_pass_seen passes.new)) }
+        ensures torn { OnErr result (TornParts bytes.now (map mem_pass_seen passes.old) (map mem_pass_seen passes.new)) }
+        ensures sectors { OnErr result (TookSectors (torn_now (calls_of self.old)) bytes.now (map mem_pass_seen passes.old) (map mem_pass_seen passes.new)) }
+        ensures cause { HasCause (mem_arm_seen self.old).faults (mem_arm_seen self.new).faults result }
+        ensures counts { Writes (length passes.old) (mem_arm_seen self.old) (mem_arm_seen self.new) result }
+        ensures sure { StaysSure (mem_arm_seen self.old).sure (mem_arm_seen self.new).sure (mem_arm_seen self.old).faults (mem_arm_seen self.new).faults }
+        ensures fails { IsErr result ↔ IsTrue (fails_now (calls_of self.old)) }
+        ensures calls { calls_of self.new ≡ one_more (calls_of self.old) }
+    {
+        let size = passes[0].bytes.len();
+        let sectors = self.next_torn();
+        if self.next_fails() {
+            write_first_sectors(passes, size, bytes, sectors as usize);
+            return Err(self.fault());
+        }
+        write_each(passes, size, bytes);
+        self.good_writes = self.good_writes.wrapping_add(passes.len() as u64);
         Ok(())
     }
 }
@@ -177,5 +301,49 @@ mod tests {
             (1, 2, 0)
         );
         assert_eq!(rt; pass.into_bytes().as_slice(), b"four".as_slice());
+    }
+
+    #[test]
+    fn a_run_is_read_and_written_in_one_call(rt: HostRuntime) {
+        let alloc = rt.alloc();
+        let four = Vec::from_slice(alloc, b"four").expect(&rt, "memory");
+        let five = Vec::from_slice(alloc, b"five").expect(&rt, "memory");
+        let mut passes = [
+            MemPass::new(BlockNo(4), four),
+            MemPass::new(BlockNo(5), five),
+        ];
+        let mut arm = MemArm::new(Vec::new(alloc));
+        let mut out = [0; 8];
+        assert!(rt; arm.read_run(&mut passes, &mut out).is_ok());
+        assert_eq!(rt; &out, b"fourfive");
+        assert!(rt; arm.write_run(&mut passes, b"FIVEFOUR").is_ok());
+        assert_eq!(rt;
+            (passes[0].bytes(), passes[1].bytes()),
+            (b"FIVE".as_slice(), b"FOUR".as_slice())
+        );
+        assert_eq!(rt;
+            (arm.faults(), arm.good_reads(), arm.good_writes()),
+            (0, 2, 2)
+        );
+    }
+
+    #[test]
+    fn a_failed_write_changes_first_sectors(rt: HostRuntime) {
+        let alloc = rt.alloc();
+        let first = Vec::from_slice(alloc, &[1; 1024]).expect(&rt, "memory");
+        let second = Vec::from_slice(alloc, &[1; 1024]).expect(&rt, "memory");
+        let mut passes = [
+            MemPass::new(BlockNo(4), first),
+            MemPass::new(BlockNo(5), second),
+        ];
+        let failing = Vec::from_slice(alloc, &[(0, 3)]).expect(&rt, "memory");
+        let mut arm = MemArm::new(failing);
+        assert!(rt; arm.write_run(&mut passes, &[2; 2048]).is_err());
+        // Two of the three sectors are those of the first block.
+        assert_eq!(rt; passes[0].bytes(), [2; 1024].as_slice());
+        let mut torn = [1; 1024];
+        torn[..512].fill(2);
+        assert_eq!(rt; passes[1].bytes(), torn.as_slice());
+        assert_eq!(rt; (arm.faults(), arm.good_writes()), (1, 0));
     }
 }

@@ -1,10 +1,11 @@
-//! The outside: where bytes come from and go to, with a count of faults.
+//! The outside: where bytes come from and go to, with a count of faults, and what time it is.
 //!
 //! `Source` and `Sink` say what the layers above may rely on: the bytes, where they are told, and that a call fails only where the
 //! count of faults rose. `MemSource` and `MemSink` meet them in memory and tell all; `FileSource` and `StdSink` are the real ones and
-//! tell nothing. `Text` is a text that contracts see as its bytes. It stands on std alone.
+//! tell nothing. `Clock` is what a worker reads and rests by; `MemClock` goes by fixed steps, `SystemClock` is the real one. `Text` is a text that contracts see as its bytes. It stands on std alone.
 #![tactic(auto)]
 
+pub mod clock;
 pub mod memory;
 pub mod real;
 pub mod text;
@@ -15,6 +16,7 @@ ghost use Rattle.std.specs.Prelude.{Bool, List, Option, ℕ};
 ghost use Rattle.vd_outside.specs.Causes.{HasCause, StaysSure};
 ghost use Rattle.vd_outside.specs.Streams.{Takes};
 
+pub use clock::{Clock, MemClock, OpenGate, SystemClock, Turnstile, Twin};
 pub use memory::{MemSink, MemSource};
 pub use real::{FileSource, StdSink};
 pub use text::{NoMemory, Text};

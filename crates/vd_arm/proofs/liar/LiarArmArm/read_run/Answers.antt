@@ -1,0 +1,27 @@
+use Rattle.std.proofs.Common.{◌≡◌, ◌∙◌, ◌*◌, List, ℕ, ap, sym, subst, length, map, refl}
+use Rattle.vd_arm.specs.Held.{AreSized}
+use Rattle.vd_arm.specs.LiarArm.{inner_seen, liar_pass_seen}
+use Rattle.vd_arm.specs.declared.liar.LiarPass.{LiarPass}
+use Rattle.vd_arm.proofs.Addresses.{sized_through}
+use Rattle.vd_arm.proofs.Parts.{none_tell, transfer_wide}
+use Rattle.vd_arm.proofs.liar.LiarArmArm.read_run.Goals as goal
+
+pub read_each-requires-clause-sized : goal.read_each-requires-clause-sized
+read_each-requires-clause-sized c =
+    let first = c.index-passes-0.result in
+    let size : length c.held_bytes-size.result.now ≡ (inner_seen first).size =
+    ap (λ (l : List ℕ). length l) c.held_bytes-size.ensures ∙ ap (λ (p : LiarPass). (inner_seen p).size) (sym c.index-passes-0.is) in
+    let wide = transfer_wide liar_pass_seen c.args.passes.now first (length c.args.out.now) c.index-passes-0.is c.requires.many.0 c.requires.transfer in
+    subst (λ n. AreSized n (map inner_seen c.args.passes.now)) (sym size)
+    (sized_through liar_pass_seen inner_seen (λ (p : LiarPass). refl) (inner_seen first).size c.args.passes.now wide.0)
+
+pub read_each-requires-clause-long : goal.read_each-requires-clause-long
+read_each-requires-clause-long c =
+    let first = c.index-passes-0.result in
+    let size : length c.held_bytes-size.result.now ≡ (inner_seen first).size =
+    ap (λ (l : List ℕ). length l) c.held_bytes-size.ensures ∙ ap (λ (p : LiarPass). (inner_seen p).size) (sym c.index-passes-0.is) in
+    let wide = transfer_wide liar_pass_seen c.args.passes.now first (length c.args.out.now) c.index-passes-0.is c.requires.many.0 c.requires.transfer in
+    wide.1 ∙ ap (λ n. length c.args.passes.now * n) (sym size)
+
+pub returns-clause-gives : goal.returns-clause-gives
+returns-clause-gives c = none_tell liar_pass_seen (λ (p : LiarPass). refl) c.args.passes.now c.read_each.new.out
