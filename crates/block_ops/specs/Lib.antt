@@ -1,0 +1,4 @@
+pub mod Runs
+pub mod Acts
+pub mod Transfers
+pub mod Answers

@@ -1,0 +1,4 @@
+pub mod Dones
+pub mod Laws
+pub mod Rows
+pub mod Tallies
