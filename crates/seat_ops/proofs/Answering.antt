@@ -1,5 +1,5 @@
 -- What the answers of the operations say of the seat's view.
-use Rattle.std.proofs.Common.{◌≡◌, ◌≢◌, ℕ, ◌+◌, ◌<◌, Bool, true, false, List, [], ◌∷◌, length, map, slice_set, refl, sym, ap, subst, ◌∙◌, inl, inr, ◌⊎◌, ◌↔◌, arith, Some, None, IsTrue, Result, Ok, Err, IfOk, IfErr, OnOk, OnErr}
+use Rattle.std.proofs.Common.{◌≡◌, ℕ, ◌+◌, ◌<◌, Bool, true, false, List, [], ◌∷◌, length, map, slice_set, refl, sym, ap, subst, ◌∙◌, inl, inr, ◌⊎◌, ◌↔◌, IsTrue, Result, Ok, Err, IfOk, IfErr, OnOk, OnErr}
 use Rattle.key_state.specs.Entries.{IsPending, entry_at, begun, ended}
 use Rattle.key_state.specs.Books.{HasBookCause, HasFlushCause}
 use Rattle.key_state.specs.declared.entry.Entry.{Entry}
@@ -12,7 +12,7 @@ use Rattle.claim_table.specs.Views.{now_at, synced_at, with_loan, given}
 use Rattle.claim_table.specs.declared.view.Item.{Item}
 use Rattle.claim_table.specs.declared.view.View.{View}
 use Rattle.claim_table.specs.declared.run.Run.{Run}
-use Rattle.block_ops.specs.Runs.{HeldRun, AreSafe, IsLive, IsBegun, held_run, some_settled}
+use Rattle.block_ops.specs.Runs.{HeldRun, AreSafe, IsLive, IsBegun, some_settled}
 use Rattle.block_ops.specs.Acts.{Acted}
 use Rattle.block_ops.specs.Answers.{HasQueueCause, IsEither, fault_in, held_in, run_in, state_in}
 use Rattle.seat_ops.specs.Holds.{HoldsRun, UsedBook, HasFault, GaveShut, AreSafeItems, falling}

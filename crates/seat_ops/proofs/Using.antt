@@ -1,15 +1,13 @@
 -- One use of the book by a seat that holds a run.
-use Rattle.std.proofs.Common.{◌≡◌, ◌≢◌, ℕ, zero, suc, ◌+◌, ◌%◌, ◌^◌, ◌<◌, ◌≤◌, Bool, cond, true, false, eqb, ◌==◌, ◌&&◌, if◌then◌else◌, List, [], ◌∷◌, ◌++◌, length, map, slice_set, refl, sym, ap, subst, ◌∙◌, inl, inr, ◌⊎◌, ne_eqb, eq-eqb, arith, Some, None}
+use Rattle.std.proofs.Common.{◌≡◌, ℕ, zero, suc, ◌+◌, ◌%◌, ◌^◌, ◌<◌, ◌≤◌, Bool, cond, true, false, ◌==◌, ◌&&◌, if◌then◌else◌, List, [], ◌∷◌, ◌++◌, length, map, slice_set, refl, sym, ap, subst, ◌∙◌, inl, inr, ne_eqb, eq-eqb, arith}
 use Rattle.std.proofs.lemmas.Bool.{cases_eq, cases_lt}
-use Rattle.vd_base.specs.Key.{next}
 use Rattle.key_state.specs.Entries.{IsPending, entry_at, begun, ended}
-use Rattle.key_state.specs.Books.{SyncedOrNow, used}
 use Rattle.key_state.specs.declared.entry.Entry.{Entry}
 use Rattle.key_state.specs.declared.entry.Entry.TheVariants.{Settled, Pending, Bad}
 use Rattle.key_state.specs.declared.seen.BookSeen.{BookSeen}
 use Rattle.claim_table.specs.Sums.{Each, total}
-use Rattle.claim_table.specs.Views.{at, blocks_of, now_at, synced_at, those, has_ended, has_cleared, has_spoilt, brought, with_loan, given}
-use Rattle.claim_table.specs.Books.{Lends, MayGive, SyncedAtOrNow}
+use Rattle.claim_table.specs.Views.{at, now_at, synced_at, those, has_ended, has_cleared, has_spoilt, brought, with_loan, given}
+use Rattle.claim_table.specs.Books.{Lends, MayGive}
 use Rattle.claim_table.specs.Runs.{AreNewest}
 use Rattle.claim_table.specs.Seats.{Brings}
 use Rattle.claim_table.specs.declared.view.Item.{Item}
@@ -17,7 +15,7 @@ use Rattle.claim_table.specs.declared.view.View.{View}
 use Rattle.claim_table.proofs.Basics.{at_yes}
 use Rattle.block_ops.specs.Runs.{AreNow, AreSafe, HasRun, IsIn, IsLive, IsBegun}
 use Rattle.block_ops.specs.Acts.{Acted, ended_among}
-use Rattle.seat_ops.specs.Holds.{HoldsRun, UsedBook, falling}
+use Rattle.seat_ops.specs.Holds.{HoldsRun, UsedAs, UsedBook, falling}
 
 -- What holds of each block's two entries.
 abbrev pub Pairs : (Entry → Entry → Type 0) → List Entry → List Entry → Type 0
@@ -351,3 +349,7 @@ module _ (v u w : View) (first : ℕ) (was : List Entry) (lent after : BookSeen)
 
 pub safe_now : (first : ℕ) (was : List Entry) (held : List Item) (book : BookSeen) → AreNewest first was held [] → AreSafe book first was → Each (λ i. IsPending (now_at book i.block) × (synced_at book i.block ≡ now_at book i.block)) held
 safe_now first was held book h safe = safe_items book first was held [] h safe tt
+
+-- what an operation did to the book between taking and giving it back
+pub used_as : (Holds : BookSeen → BookSeen → Type 0) (v u w : View) (lent after : BookSeen) → Lends v lent → u ≡ with_loan v lent → w ≡ given u after → Holds lent after → UsedAs Holds v w
+used_as Holds v u w lent after lends q r holds = (lent, after, lends, ap (λ (x : View). x.gave) r ∙ ap (λ (x : View). after ∷ x.gave) q, holds)

@@ -1,11 +1,12 @@
 -- A seat that holds one run of blocks, and what an operation on these changes in its view.
-use Rattle.std.specs.Prelude.{◌≡◌, ℕ, zero, suc, ◌+◌, ◌≤◌, true, false, cond, Bool, List, [], ◌∷◌, ◌++◌, length, None, Some, IsSome, IsTrue}
+use Rattle.std.specs.Prelude.{◌≡◌, ℕ, zero, suc, ◌+◌, ◌≤◌, true, cond, List, [], ◌∷◌, ◌++◌, length, None, Some, IsSome, IsTrue}
 use Rattle.key_state.specs.Entries.{IsEntry}
 use Rattle.key_state.specs.declared.entry.Entry.{Entry}
 use Rattle.key_state.specs.declared.fault.BookFault.{BookFault}
 use Rattle.key_state.specs.declared.fault.BookFault.TheVariants.{Failed, Stopped, EpochEnd}
 use Rattle.key_state.specs.declared.seen.BookSeen.{BookSeen}
 use Rattle.claim_table.specs.Sums.{Each}
+use Rattle.claim_table.specs.Books.{Lends}
 use Rattle.claim_table.specs.Views.{blocks_of}
 use Rattle.claim_table.specs.Runs.{AreNewest}
 use Rattle.claim_table.specs.declared.view.View.{View}
@@ -33,16 +34,20 @@ pub record UsedBook (before after : View) (ended bad : List ℕ) : Type 0 where
   pub parts : after.parts ≡ before.parts
   pub made : after.made ≡ before.made
 
--- The book has answered this fault, and may have answered it before.
+-- The book's state agrees with this fault.
 abbrev pub HasFault : BookSeen → BookFault → Type 0
 HasFault book Failed = IsSome book.stopped
 HasFault book (Stopped records) = book.stopped ≡ Some records
 HasFault book (EpochEnd epoch) = (book.stopped ≡ None) × (epoch ≡ book.epoch)
 
--- The book that the seat gave back last has answered this fault, and is shut.
+-- The book that the seat gave back last is shut, and its state agrees with this fault.
 abbrev pub GaveShut : View → BookFault → Type 0
 GaveShut view fault = (book : BookSeen) × (others : List BookSeen) × (view.gave ≡ book ∷ others) × (book.shut ≡ true) × HasFault book fault
 
 -- A stop can't take back the pending entry of any block that it holds.
 abbrev pub AreSafeItems : View → Type 0
 AreSafeItems view = Each (λ i. IsTrue i.safe) view.held
+
+-- One use of the book by a seat: it was lent as the first and given back as the second, of which this holds.
+abbrev pub UsedAs : (BookSeen → BookSeen → Type 0) → View → View → Type 0
+UsedAs Holds before after = (lent : BookSeen) × (given : BookSeen) × Lends before lent × (after.gave ≡ given ∷ before.gave) × Holds lent given

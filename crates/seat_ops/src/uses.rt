@@ -1,5 +1,6 @@
 // One use of the book: it is taken, an operation on the run is made on it, and it is given back.
 ghost use Rattle.std.specs.Prelude.{◌≡◌, ◌⊎◌, ◌+◌, ◌<◌, [], ◌∷◌, true, length, map, slice_set, IfOk, IfErr, OnOk, OnErr};
+ghost use Rattle.key_state.specs.Books.{HasBookCause, HasFlushCause, Unsynced};
 ghost use Rattle.key_state.specs.Entries.{begun, ended, entry_at};
 ghost use Rattle.key_state.specs.declared.entry.Entry.TheVariants.{Bad};
 ghost use Rattle.claim_table.specs.Sums.{Each};
@@ -7,8 +8,8 @@ ghost use Rattle.claim_table.specs.Runs.{ArePassesFor};
 ghost use Rattle.claim_table.specs.Seats.{view_of, IsSeatOf};
 ghost use Rattle.claim_table.specs.declared.view.Made.{Made};
 ghost use Rattle.block_ops.specs.Runs.{IsBegun, IsLive, held_run};
-ghost use Rattle.block_ops.specs.Answers.{IsEither, held_in, run_in, state_in};
-ghost use Rattle.seat_ops.specs.Holds.{AreSafeItems, GaveShut, HoldsRun, UsedBook, falling};
+ghost use Rattle.block_ops.specs.Answers.{HasQueueCause, IsEither, fault_in, held_in, run_in, state_in};
+ghost use Rattle.seat_ops.specs.Holds.{AreSafeItems, GaveShut, HoldsRun, UsedAs, UsedBook, falling};
 
 use block_ops::{Begun, Ended, Queued, Written, confirm, end_write, mark_bad, queue_begin};
 use claim_table::{ClaimSeat, ClaimTable, Run};
@@ -37,6 +38,7 @@ pub fn queue_held<P: Pass, B: Book, R: Wait>(
     ensures queued { IfOk result (λ queued. queued.entries ≡ map begun held.entries.items) }
     ensures refused { IfErr result (λ refused. IsEither held.entries.items (map begun held.entries.items) refused.0.entries.items) }
     ensures shut { IfErr result (λ refused. GaveShut (view_of seat.new) refused.1) }
+    ensures cause { UsedAs (λ lent given. HasQueueCause held.entries.items lent given (fault_in result) × Unsynced lent given) (view_of seat.old) (view_of seat.new) }
     ensures fits { (made : Made) → ArePassesFor P.seen made held.first.0 held.entries.items held.passes.items → ArePassesFor P.seen made held.first.0 (held_in result).entries (held_in result).passes }
 {
     let mut book = table.take_book(rt, seat);
@@ -62,6 +64,7 @@ pub fn confirm_begun<P: Pass, B: Book, R: Wait>(
     ensures same { held_in result ≡ queued }
     ensures safe { OnOk result (AreSafeItems (view_of seat.new)) }
     ensures shut { IfErr result (λ refused. GaveShut (view_of seat.new) refused.1) }
+    ensures cause { UsedAs (λ lent given. HasFlushCause lent given (fault_in result)) (view_of seat.old) (view_of seat.new) }
 {
     let mut book = table.take_book(rt, seat);
     let answer = confirm(queued, &mut book);
@@ -89,6 +92,7 @@ pub fn end_written<P: Pass, B: Book, R: Wait>(
     ensures first { (state_in result).first ≡ written.first }
     ensures passes { (state_in result).passes ≡ written.passes }
     ensures shut { IfErr result (λ refused. GaveShut (view_of seat.new) refused.1) }
+    ensures cause { UsedAs (λ lent given. HasBookCause lent given (fault_in result) × Unsynced lent given) (view_of seat.old) (view_of seat.new) }
     ensures fits { (made : Made) → ArePassesFor P.seen made written.first (map ended written.entries) written.passes → ArePassesFor P.seen made written.first (state_in result).entries (state_in result).passes }
 {
     let mut book = table.take_book(rt, seat);
@@ -119,6 +123,7 @@ pub fn make_bad<P: Pass, B: Book, R: Wait>(
     ensures first { (run_in result).first ≡ held.first.0 }
     ensures passes { (run_in result).passes ≡ held.passes.items }
     ensures shut { IfErr result (λ refused. GaveShut (view_of seat.new) refused.1) }
+    ensures cause { UsedAs (λ lent given. HasBookCause lent given (fault_in result) × Unsynced lent given) (view_of seat.old) (view_of seat.new) }
     ensures fits { (made : Made) → ArePassesFor P.seen made held.first.0 held.entries.items held.passes.items → ArePassesFor P.seen made held.first.0 (run_in result).entries (run_in result).passes }
 {
     let mut book = table.take_book(rt, seat);

@@ -1,5 +1,7 @@
+use Rattle.key_state.specs.Books.{HasFlushCause}
+use Rattle.block_ops.specs.Answers.{fault_in}
 use Rattle.claim_table.specs.Seats.{view_of}
-use Rattle.seat_ops.proofs.Using.{same_change, has_run, brings, holds_now, used_book}
+use Rattle.seat_ops.proofs.Using.{same_change, has_run, brings, holds_now, used_book, used_as}
 use Rattle.seat_ops.proofs.Answering.{confirm_safe, flush_shut}
 use Rattle.seat_ops.proofs.uses.confirm_begun.Goals as goal
 
@@ -23,3 +25,6 @@ returns-clause-safe g c =
 
 pub returns-clause-shut : goal.returns-clause-shut
 returns-clause-shut g c = flush_shut (view_of c.take_book-book.new.seat) _ (g.B.Book.seen c.take_book-book.result) (g.B.Book.seen c.confirm-answer.new.book) c.give_book.ensures.given c.confirm-answer.result c.confirm-answer.ensures.shut c.confirm-answer.ensures.cause
+
+pub returns-clause-cause : goal.returns-clause-cause
+returns-clause-cause g c = used_as (λ lent after. HasFlushCause lent after (fault_in c.confirm-answer.result)) _ _ _ _ _ c.take_book-book.ensures.book c.take_book-book.ensures.loan c.give_book.ensures.given c.confirm-answer.ensures.cause

@@ -1,5 +1,7 @@
+use Rattle.key_state.specs.Books.{HasBookCause, Unsynced}
+use Rattle.block_ops.specs.Answers.{fault_in}
 use Rattle.claim_table.specs.Seats.{view_of}
-use Rattle.seat_ops.proofs.Using.{has_run, brings, holds_now}
+use Rattle.seat_ops.proofs.Using.{has_run, brings, holds_now, used_as}
 use Rattle.seat_ops.proofs.Answering.{end_gentle, end_used, end_refused, book_shut}
 use Rattle.seat_ops.proofs.uses.end_written.Goals as goal
 
@@ -23,3 +25,6 @@ returns-clause-refused g c = end_refused _ _ _ _ _ _ _ c.requires.holds c.take_b
 
 pub returns-clause-shut : goal.returns-clause-shut
 returns-clause-shut g c = book_shut (view_of c.take_book-book.new.seat) _ (g.B.Book.seen c.take_book-book.result) (g.B.Book.seen c.end_write-answer.new.book) c.give_book.ensures.given c.end_write-answer.result c.end_write-answer.ensures.shut c.end_write-answer.ensures.cause
+
+pub returns-clause-cause : goal.returns-clause-cause
+returns-clause-cause g c = used_as (λ lent after. HasBookCause lent after (fault_in c.end_write-answer.result) × Unsynced lent after) _ _ _ _ _ c.take_book-book.ensures.book c.take_book-book.ensures.loan c.give_book.ensures.given (c.end_write-answer.ensures.cause, c.end_write-answer.ensures.unsynced)

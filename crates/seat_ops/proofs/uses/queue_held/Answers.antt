@@ -1,5 +1,7 @@
+use Rattle.key_state.specs.Books.{Unsynced}
+use Rattle.block_ops.specs.Answers.{HasQueueCause, fault_in}
 use Rattle.claim_table.specs.Seats.{view_of}
-use Rattle.seat_ops.proofs.Using.{has_run, brings, holds_now, used_book}
+use Rattle.seat_ops.proofs.Using.{has_run, brings, holds_now, used_book, used_as}
 use Rattle.seat_ops.proofs.Answering.{queue_change, queue_shut}
 use Rattle.seat_ops.proofs.uses.queue_held.Goals as goal
 
@@ -22,3 +24,6 @@ returns-clause-used g c =
 
 pub returns-clause-shut : goal.returns-clause-shut
 returns-clause-shut g c = queue_shut (view_of c.take_book-book.new.seat) _ (g.B.Book.seen c.take_book-book.result) (g.B.Book.seen c.queue_begin-answer.new.book) c.give_book.ensures.given c.args.held.entries.items c.queue_begin-answer.result c.queue_begin-answer.ensures.shut c.queue_begin-answer.ensures.cause
+
+pub returns-clause-cause : goal.returns-clause-cause
+returns-clause-cause g c = used_as (λ lent after. HasQueueCause c.args.held.entries.items lent after (fault_in c.queue_begin-answer.result) × Unsynced lent after) _ _ _ _ _ c.take_book-book.ensures.book c.take_book-book.ensures.loan c.give_book.ensures.given (c.queue_begin-answer.ensures.cause, c.queue_begin-answer.ensures.unsynced)
