@@ -26,6 +26,7 @@ use Rattle.claim_table.specs.declared.slot.Slot.{Slot}
 use Rattle.claim_table.specs.declared.slot.Slot.TheVariants as slot
 use Rattle.claim_table.proofs.LaneSteps.{lane_or, op_here, op_there, or_none}
 use Rattle.claim_table.proofs.Basics.{code_small, some_same}
+use Rattle.claim_table.proofs.SlotParts.{same_pass}
 use Rattle.std.proofs.Math.Nat.{zero-div}
 use Rattle.std.proofs.lemmas.Nat.{or_comm}
 use Rattle.claim_table.specs.Passes.{ArePasses}
@@ -52,7 +53,7 @@ mapped f (z ∷ xs) (suc i) x d at = mapped f xs i x d at
 module _ {P B : Type 0} (pass_seen : P → PassSeen) (book_seen : B → BookSeen) (made : Made) where
   pub starts : (ws : List ℕ) (xs : List (Slot P B)) → HasEntries made.book (blocks_of made) ws → IsBook made.book
       → length xs ≡ blocks_of made + 1
-      → ((b : ℕ) → b < blocks_of made → (p : P) × (get_elem? xs b ≡ some (slot.Pass p)) × IsPassFor made b (now_at made.book b) (pass_seen p))
+      → ((b : ℕ) → b < blocks_of made → (p : P) × (get_elem? xs b ≡ some (slot.Pass p)) × IsPassFor made b (now_at made.book b) (pass_seen p) × ((pass_seen p).told ≡ slice_index_or made.told b None))
       → (x : B) × (shelf : Shelf B) × (get_elem? xs (blocks_of made) ≡ some (slot.Book shelf)) × (shelf.place.value ≡ Some x) × (book_seen x ≡ made.book)
       → length made.book.now ≡ blocks_of made → 0 < made.seats
       → Kept pass_seen book_seen made (opening ws xs (start made))
@@ -91,6 +92,9 @@ module _ {P B : Type 0} (pass_seen : P → PassSeen) (book_seen : B → BookSeen
           long = length-map xs some ∙ long;
           home = λ b near _. let t = passes b near in (t.0, at_map some xs b (slot.Pass t.0) t.1, t.2);
           parked = λ j u e. only_first (λ z. Each (Parked pass_seen book_seen made made.book (map some xs) z.hand) z.held) v j u e tt;
+          untouched = λ b p near at-b _. let t = passes b near in
+              let same : t.0 ≡ p = same_pass {B = B} t.0 p (some-injective (slot.Pass t.0) (slot.Pass p) (some-injective (some (slot.Pass t.0)) (some (slot.Pass p)) (sym (at_map some xs b (slot.Pass t.0) t.1) ∙ at-b))) in
+              ap (λ (q : P). (pass_seen q).told) (sym same) ∙ t.3;
         };
         lock = record {
           bit = sym words.unlocked;
@@ -133,6 +137,7 @@ module _ {P B : Type 0} (pass_seen : P → PassSeen) (book_seen : B → BookSeen
         p.0,
         ap (λ (l : List (Slot P B)). get_elem? l b) slots ∙ at_longer all (slot.Book shelf ∷ []) b (slot.Pass p.0) (at_map slot.Pass passes b p.0 p.1),
         record { of = of.0; sized = of.1; fits = λ fitted. subst T told.1 (fitted b near) },
+        sym told.1,
       ))
       (book, shelf, ap (λ (l : List (Slot P B)). get_elem? l n) slots ∙ at_last all (slot.Book shelf) n long, has, refl)
       sized some-seat)

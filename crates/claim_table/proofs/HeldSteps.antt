@@ -31,7 +31,7 @@ use Rattle.claim_table.proofs.LaneSteps.{lane_xor, op_here, op_there, xor_turn, 
 use Rattle.claim_table.proofs.Basics.{at_yes, at_no, each_map, each_apart, each_at, some_term, alive, code_small, tail_of, same_tail, same_head, falls_tail}
 use Rattle.claim_table.proofs.WordParts.{agrees_kept, moved, rested}
 use Rattle.claim_table.proofs.Steps.{K, reloaded}
-use Rattle.claim_table.proofs.SlotParts.{counts_kept, pass_else, parked_apart, slots_set, lock_kept}
+use Rattle.claim_table.proofs.SlotParts.{counts_kept, pass_else, parked_apart, kept_had, slots_set, lock_kept}
 
 -- the newest item of a view
 record Top (made : Made) (book : BookSeen) (words : List ℕ) (views : List View) (id : ℕ) (v : View) (i : Item) (others : List Item) : Type 0 where
@@ -66,6 +66,7 @@ module _ {P B : Type 0} (pass_seen : P → PassSeen) (book_seen : B → BookSeen
       → Allows (K pass_seen book_seen made) n id m (word_of i.block) (λ y. y) (fetches_pass (step n (word_of i.block) 0 0 none) m)
   fetches_allowed n id m i others top good free-hand s o wide me _ =
       let a = o.claims in let k = o.slots in let b : ℕ = i.block in let v : View = m.0 in let t = top_of made o.book s.words s.views a id v i others me top in
+      let had : 0 < other_at b v = (tail_of (λ j. 0 < other_at j.block v) i v.held others top (a.each id v me).stands).0 in
       let w : View = with_hand v (b + 1) in let hs : List (maybe.Option (Slot P B)) = set s.homes b none in
       let near = t.near in let busy = t.busy in
       let here = tail_of (Parked pass_seen book_seen made o.book s.homes v.hand) i v.held others top (k.parked id v me) in
@@ -77,7 +78,7 @@ module _ {P B : Type 0} (pass_seen : P → PassSeen) (book_seen : B → BookSeen
           book = o.book;
           claims = rested made o.book s.words s.views a id v w s.words me refl (λ c. refl) refl refl refl (a.each id v me);
           counts = counts_kept made o.book s.views o.counts id v w me refl refl refl refl refl refl (λ _. inl refl);
-          slots = slots_set pass_seen book_seen made o.book s.words s.words s.homes hs s.views k id w (length-set s.homes b none)
+          slots = slots_set pass_seen book_seen made o.book s.words s.words s.homes hs s.views k id v w me (λ c. omega arith) (kept_had s.homes b s.views id v w none me had) (length-set s.homes b none)
               (λ j h q. pass_else pass_seen book_seen made o.book s.homes j b none (λ z. absurd (omega (arith, subst (λ (y : ℕ). code_at s.words y < 2 ^ 15) z q))) (k.home j h q))
               (λ j u ne at-j. parked_apart pass_seen book_seen made o.book s.homes b u.hand u.hand none u.held (t.apart j u ne at-j) (λ _ _ h. h) (k.parked j u at-j))
               (subst Q (sym top) (((λ bad. absurd (good bad)), λ _ away. absurd (away refl)), parked_apart pass_seen book_seen made o.book s.homes b v.hand (b + 1) none others t.gone (λ q _ _ z. omega arith) here.1));
@@ -93,6 +94,7 @@ module _ {P B : Type 0} (pass_seen : P → PassSeen) (book_seen : B → BookSeen
       → Allows (K pass_seen book_seen made) n id m j (λ y. y) (parks (step n j 0 0 none) m)
   parks_allowed n id m i others rs j top good hand has s o wide me _ =
       let a = o.claims in let k = o.slots in let b : ℕ = i.block in let v : View = m.0 in let t = top_of made o.book s.words s.views a id v i others me top in
+      let had : 0 < other_at b v = (tail_of (λ j. 0 < other_at j.block v) i v.held others top (a.each id v me).stands).0 in
       let w : View = with_hand v 0 in let hs : List (maybe.Option (Slot P B)) = set s.homes b (some slot.Empty) in
       let near = t.near in let busy = t.busy in let wideh = k.long in
       let here = tail_of (Parked pass_seen book_seen made o.book s.homes v.hand) i v.held others top (k.parked id v me) in
@@ -106,7 +108,7 @@ module _ {P B : Type 0} (pass_seen : P → PassSeen) (book_seen : B → BookSeen
           book = o.book;
           claims = rested made o.book s.words s.views a id v w s.words me refl (λ c. refl) refl refl refl (a.each id v me);
           counts = counts_kept made o.book s.views o.counts id v w me refl refl refl refl refl refl (λ _. inl refl);
-          slots = slots_set pass_seen book_seen made o.book s.words s.words s.homes hs s.views k id w (length-set s.homes b (some slot.Empty))
+          slots = slots_set pass_seen book_seen made o.book s.words s.words s.homes hs s.views k id v w me (λ c. omega arith) (kept_had s.homes b s.views id v w (some slot.Empty) me had) (length-set s.homes b (some slot.Empty))
               (λ j h q. pass_else pass_seen book_seen made o.book s.homes j b (some slot.Empty) (λ z. absurd (omega (arith, subst (λ (y : ℕ). code_at s.words y < 2 ^ 15) z q))) (k.home j h q))
               (λ j u ne at-j. parked_apart pass_seen book_seen made o.book s.homes b u.hand u.hand (some slot.Empty) u.held (t.apart j u ne at-j) (λ _ _ h. h) (k.parked j u at-j))
               (subst Q (sym top) (((λ bad. absurd (good bad)), λ _ _. set_here s.homes b (some slot.Empty) (omega arith)), parked_apart pass_seen book_seen made o.book s.homes b v.hand 0 (some slot.Empty) others t.gone (λ q ne _ z. ne (omega arith)) here.1));
@@ -135,6 +137,7 @@ module _ {P B : Type 0} (pass_seen : P → PassSeen) (book_seen : B → BookSeen
       let long : length W ≡ length s.words = length-set s.words (word_of b) (bit_xor wd (shifted b d)) in
       let zero-word : get_or W 0 0 ≡ get_or s.words 0 0 = get_or-set_other s.words (word_of b) 0 (bit_xor wd (shifted b d)) 0 (λ e. omega arith) in
       let word = t.agrees.word in let gone = t.gone in
+      let had : 0 < other_at b v = (tail_of (λ j. 0 < other_at j.block v) i v.held others top (a.each id v me).stands).0 in
       let w : View = with_hand (released v others) 0 in let hs : List (maybe.Option (Slot P B)) = set s.homes b (some (slot.Pass p)) in let wideh = k.long in
       let parked = tail_of (Parked pass_seen book_seen made o.book s.homes v.hand) i v.held others top (k.parked id v me) in
       let ok' : IsPassFor made b (now_at o.book b) (pass_seen p) = let F : Made × Entry → Type 0 = λ z. IsPassFor z.0 b z.1 (pass_seen p) in subst F (λ q. (known q, sym t.agrees.owned q)) ok in
@@ -160,7 +163,7 @@ module _ {P B : Type 0} (pass_seen : P → PassSeen) (book_seen : B → BookSeen
               refl (λ j. refl) (λ j. omega arith) (λ j _. refl) (λ some-bad. omega (arith, here, ap code_of (sym t.agrees.owned ∙ o.counts.bad_met b (omega (arith, some-bad, total-set (bad_at b) s.views id v w me)))))
               (λ j code. refl) (λ j code. omega arith);
           counts = counts_kept made o.book s.views o.counts id v w me refl refl refl refl refl refl (λ _. inl refl);
-          slots = slots_set pass_seen book_seen made o.book s.words W s.homes hs s.views k id w (length-set s.homes b (some (slot.Pass p)))
+          slots = slots_set pass_seen book_seen made o.book s.words W s.homes hs s.views k id v w me (λ c. omega arith) (kept_had s.homes b s.views id v w (some (slot.Pass p)) me had) (length-set s.homes b (some (slot.Pass p)))
               (λ j h q. dite (ℕ_discrete j b) (λ z. subst (PassHome pass_seen book_seen made o.book hs) (sym z) (p, set_here s.homes b (some (slot.Pass p)) (omega arith), ok'))
               (λ ne. pass_else pass_seen book_seen made o.book s.homes j b (some (slot.Pass p)) ne (k.home j h (subst (λ (y : ℕ). y < 2 ^ 15) (there j ne) q))))
               (λ j u ne at-j. parked_apart pass_seen book_seen made o.book s.homes b u.hand u.hand (some (slot.Pass p)) u.held (t.apart j u ne at-j) (λ _ _ h. h) (k.parked j u at-j))
@@ -209,7 +212,7 @@ module _ {P B : Type 0} (pass_seen : P → PassSeen) (book_seen : B → BookSeen
               }
               refl (λ j. refl) (λ j. omega arith) (λ j _. refl) (λ _. omega (arith, here)) (λ j code. refl) (λ j code. omega arith);
           counts = counts_kept made o.book s.views o.counts id v w me refl refl refl refl refl refl (λ _. inl refl);
-          slots = slots_set pass_seen book_seen made o.book s.words W s.homes s.homes s.views k id w refl
+          slots = slots_set pass_seen book_seen made o.book s.words W s.homes s.homes s.views k id v w me (λ c. omega arith) (λ c q at-c _. at-c) refl
               (λ j h q. dite (ℕ_discrete j b) (λ z. subst (PassHome pass_seen book_seen made o.book s.homes) (sym z) (parked.0.0 bad)) (λ ne. k.home j h (subst (λ (y : ℕ). y < 2 ^ 15) (there j ne) q)))
               (λ j u ne at-j. k.parked j u at-j) parked.1;
           lock = lock_kept pass_seen book_seen made o.book s.words W s.homes s.homes s.views o.lock id v w me zero-word refl refl (λ h. h) refl;
@@ -227,7 +230,7 @@ module _ {P B : Type 0} (pass_seen : P → PassSeen) (book_seen : B → BookSeen
           book = o.book;
           claims = rested made o.book s.words s.views a id v v s.words me refl (λ c. refl) refl refl refl was;
           counts = counts_kept made o.book s.views o.counts id v v me refl refl refl refl refl refl (λ _. inl refl);
-          slots = slots_set pass_seen book_seen made o.book s.words s.words s.homes s.homes s.views o.slots id v refl o.slots.home (λ j u _. o.slots.parked j u) (o.slots.parked id v me);
+          slots = slots_set pass_seen book_seen made o.book s.words s.words s.homes s.homes s.views o.slots id v v me (λ c. omega arith) (λ c q at-c _. at-c) refl o.slots.home (λ j u _. o.slots.parked j u) (o.slots.parked id v me);
           lock = lock_kept pass_seen book_seen made o.book s.words s.words s.homes s.homes s.views o.lock id v v me refl refl refl (λ h. h) refl;
         },
         (

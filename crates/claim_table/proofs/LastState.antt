@@ -1,5 +1,5 @@
 -- What the rule says where one seat has every part and holds nothing.
-use Rattle.std.proofs.Common.{◌≡◌, ℕ, zero, suc, ◌+◌, ◌%◌, ◌^◌, ◌<◌, Bool, true, false, cond, ◌≢◌, List, [], ◌∷◌, ◌++◌, map, length, sym, refl, ap, ◌∙◌, subst, ⊎_elim, arith, length-append, Option, Some, None, slice_get, IsSome}
+use Rattle.std.proofs.Common.{◌≡◌, ℕ, zero, suc, ◌+◌, ◌%◌, ◌^◌, ◌<◌, Bool, true, false, cond, ◌≢◌, List, [], ◌∷◌, ◌++◌, map, length, sym, refl, ap, ◌∙◌, subst, ⊎_elim, arith, length-append, Option, Some, None, slice_get, slice_index_or, IsSome}
 use Rattle.std.proofs.lemmas.List.{length-map}
 use mathlib.Core.Bool.{false≢true}
 use mathlib.Core.Option as maybe
@@ -24,6 +24,7 @@ use Rattle.claim_table.specs.declared.slot.Slot.TheVariants as slot
 use Rattle.claim_table.proofs.Sums.{total-append, terms_le}
 use Rattle.claim_table.proofs.Basics.{each_map, some_same}
 use Rattle.claim_table.proofs.GaveBack.{among_left, among_right, among_either, among_more, gave_alone}
+use Rattle.claim_table.proofs.SlotParts.{same_pass}
 use Rattle.claim_table.proofs.Steps.{K}
 use Rattle.claim_table.specs.Seats.{view_of}
 use Rattle.claim_table.specs.declared.table.ClaimSeat.{ClaimSeat}
@@ -46,9 +47,6 @@ zero_else : (g : View → ℕ) (l : List View) (id : ℕ) (v : View) → get_ele
 zero_else g [] id v e h = absurd (some-ne-none v (sym e))
 zero_else g (x ∷ xs) zero v e h = omega (arith, ap g (some-injective x v e), all_zero g xs (λ j u at-j. h (suc j) u (λ z. omega arith) at-j))
 zero_else g (x ∷ xs) (suc id) v e h = omega (arith, h 0 x (λ z. omega arith) refl, zero_else g xs id v e (λ j u ne at-j. h (suc j) u (λ z. ne (omega arith)) at-j))
-
-pass_same : {P B : Type 0} (x y : P) → ◌≡◌ {A = Slot P B} (slot.Pass x) (slot.Pass y) → x ≡ y
-pass_same x y e = cc
 
 pub shelf_same : {P B : Type 0} (x y : Shelf B) → ◌≡◌ {A = Slot P B} (slot.Book x) (slot.Book y) → x ≡ y
 shelf_same x y e = cc
@@ -79,6 +77,7 @@ module _ {P B : Type 0} (pass_seen : P → PassSeen) (book_seen : B → BookSeen
   record AllHome (homes : List (maybe.Option (Slot P B))) (v : View) : Type 0 where
     book : BookSeen
     passes : (b : ℕ) → b < blocks_of made → PassHome pass_seen book_seen made book homes b
+    untouched : (b : ℕ) (p : P) → b < blocks_of made → get_elem? homes b ≡ some (some (slot.Pass p)) → other_at b v ≡ 0 → (pass_seen p).told ≡ slice_index_or made.told b None
     home : (x : B) × (shelf : Shelf B) × (get_elem? homes (blocks_of made) ≡ some (some (slot.Book shelf))) × (shelf.place.value ≡ Some x) × (book_seen x ≡ book)
     tallied : Tallied made v book
 
@@ -94,6 +93,7 @@ module _ {P B : Type 0} (pass_seen : P → PassSeen) (book_seen : B → BookSeen
       record {
         book = o.book;
         passes = λ b near. o.slots.home b near (let small : code_at s.words b < 2 ^ 16 = omega arith in omega (arith, a.busy b near, none-held b));
+        untouched = λ b p near at-b none-met. o.slots.untouched b p near at-b (omega (arith, none-met, only (answered b)));
         home = o.lock.home (omega (arith, o.lock.bit, none-lent));
         tallied = record {
           follows = o.counts.follows;
@@ -112,6 +112,7 @@ module _ {P B : Type 0} (pass_seen : P → PassSeen) (book_seen : B → BookSeen
   pub record Lying (xs : List (Slot P B)) (v : View) : Type 0 where
     pub book : BookSeen
     pub passes : (b : ℕ) → b < blocks_of made → (p : P) × (get_elem? xs b ≡ some (slot.Pass p)) × IsPassFor made b (now_at book b) (pass_seen p)
+    pub untouched : (b : ℕ) (p : P) → b < blocks_of made → get_elem? xs b ≡ some (slot.Pass p) → other_at b v ≡ 0 → (pass_seen p).told ≡ slice_index_or made.told b None
     pub home : (x : B) × (shelf : Shelf B) × (get_elem? xs (blocks_of made) ≡ some (slot.Book shelf)) × (shelf.place.value ≡ Some x) × (book_seen x ≡ book)
     pub tallied : Tallied made v book
 
@@ -124,6 +125,9 @@ module _ {P B : Type 0} (pass_seen : P → PassSeen) (book_seen : B → BookSeen
       record {
         book = t.book;
         passes = λ b near. let p = t.passes b near in (p.0, found b (slot.Pass p.0) p.1, p.2);
+        untouched = λ b p near at-b none-met. let q = t.passes b near in
+            let same-pass : q.0 ≡ p = same_pass {B = B} q.0 p (some-injective (slot.Pass q.0) (slot.Pass p) (sym (found b (slot.Pass q.0) q.1) ∙ at-b)) in
+            ap (λ (z : P). (pass_seen z).told) (sym same-pass) ∙ t.untouched b q.0 near q.1 none-met;
         home = (t.home.0, t.home.1, found (blocks_of made) (slot.Book t.home.1) t.home.2, t.home.3, t.home.4);
         tallied = t.tallied;
       }
@@ -142,10 +146,15 @@ module _ {P B : Type 0} (pass_seen : P → PassSeen) (book_seen : B → BookSeen
             let near : b < n = let within = slice_get_within (map pass_seen room) b seen at-b in omega (arith, length-map room pass_seen) in
             let p = t.passes b (omega arith) in
             let q = each b near in
-            let same-pass : p.0 ≡ q.0 = pass_same {B = B} p.0 q.0 (some-injective (slot.Pass p.0) (slot.Pass q.0) (sym p.1 ∙ q.2)) in
+            let same-pass : p.0 ≡ q.0 = same_pass {B = B} p.0 q.0 (some-injective (slot.Pass p.0) (slot.Pass q.0) (sym p.1 ∙ q.2)) in
             let same-seen : pass_seen p.0 ≡ seen = ap pass_seen same-pass ∙ map_at pass_seen room b q.0 seen q.1 at-b in
             let F : BookSeen × PassSeen → Type 0 = λ z. IsPassFor made b (now_at z.0 b) z.1 in
             subst F (λ i. (is i, same-seen i)) p.2;
+        untouched = λ b seen at-b none-met.
+            let near : b < n = let within = slice_get_within (map pass_seen room) b seen at-b in omega (arith, length-map room pass_seen) in
+            let q = each b near in
+            let same-seen : pass_seen q.0 ≡ seen = map_at pass_seen room b q.0 seen q.1 at-b in
+            ap (λ (z : PassSeen). z.told) (sym same-seen) ∙ t.untouched b q.0 (omega arith) q.2 (omega (arith, none-met));
         follows = tallied.follows;
         given = among_more (book_seen x) made.book v.gave (gave_by (v ∷ [])) (among_left (book_seen x) v.gave []) tallied.given;
         ends = tallied.ends ∙ ap (λ (m : ℕ). (made.book.ends + m) % 2 ^ 64) (omega arith);
@@ -192,6 +201,7 @@ pub returned_all : (made : Made) (views : List View) (all : View) (passes : List
 returned_all made views all passes book g r = record {
   many = r.many;
   each = r.each;
+  untouched = λ b pass at-b none-met. r.untouched b pass at-b (omega (arith, none-met, g.sums (other_at b) (λ v w. total-append (answered b) w.mine v.mine ∙ omega arith)));
   follows = r.follows;
   given = among_more book made.book (gave_by (all ∷ [])) (gave_by views)
       (λ h. ⊎_elim (λ (l : Among book all.gave). g.gave book l) (λ (none-left : Among book []). absurd none-left) (among_either book all.gave [] h)) r.given;

@@ -14,5 +14,6 @@ pub mod TestParts
 pub mod TestWrites
 pub mod SeatSteps
 pub mod LastState
+pub mod Untouched
 pub mod Taking
 pub mod FirstState

@@ -35,7 +35,7 @@ use Rattle.claim_table.proofs.WordParts.{agrees_kept, rested}
 use Rattle.claim_table.proofs.Steps.{K, reloaded}
 use Rattle.claim_table.proofs.GaveBack.{among_more, gave_new, gave_alone}
 use Rattle.claim_table.proofs.BadCount.{bad_after, bad_place}
-use Rattle.claim_table.proofs.SlotParts.{counts_kept, pass_else, parked_else, slots_set, lock_kept}
+use Rattle.claim_table.proofs.SlotParts.{counts_kept, pass_else, parked_else, kept_none, kept_book, slots_set, lock_kept}
 
 -- the words of the blocks are apart from the lock
 codes_apart : (ws : List ℕ) (x : ℕ) (c : ℕ) → code_at (set ws 0 x) c ≡ code_at ws c
@@ -156,7 +156,7 @@ module _ {P B : Type 0} (pass_seen : P → PassSeen) (book_seen : B → BookSeen
           book = o.book;
           claims = rested made o.book s.words s.views a id v w W me (length-set s.words 0 y) (codes_apart s.words y) refl refl refl was;
           counts = counts_kept made o.book s.views o.counts id v w me refl refl refl refl refl refl (λ _. inl refl);
-          slots = slots_set pass_seen book_seen made o.book s.words W s.homes hs s.views k id w (length-set s.homes (blocks_of made) none)
+          slots = slots_set pass_seen book_seen made o.book s.words W s.homes hs s.views k id v w me (λ c. omega arith) (λ c q at-c _. kept_none s.homes (blocks_of made) c q at-c) (length-set s.homes (blocks_of made) none)
               (λ j h q. pass_else pass_seen book_seen made o.book s.homes j (blocks_of made) none (λ e. omega arith) (k.home j h (subst (λ (z : ℕ). z < 2 ^ 15) (codes_apart s.words y j) q)))
               (λ j u _ at-j. parked_far o.book s.words s.homes s.views a j u.hand u.hand u none at-j (inl refl) (k.parked j u at-j))
               (parked_far o.book s.words s.homes s.views a id v.hand w.hand v none me (inr (inl free-hand)) (k.parked id v me));
@@ -183,7 +183,7 @@ module _ {P B : Type 0} (pass_seen : P → PassSeen) (book_seen : B → BookSeen
           book = o.book;
           claims = rested made o.book s.words s.views a id v v s.words me refl (λ c. refl) refl refl refl was;
           counts = counts_kept made o.book s.views o.counts id v v me refl refl refl refl refl refl (λ _. inl refl);
-          slots = slots_set pass_seen book_seen made o.book s.words s.words s.homes s.homes s.views k id v refl k.home (λ j u _. k.parked j u) (k.parked id v me);
+          slots = slots_set pass_seen book_seen made o.book s.words s.words s.homes s.homes s.views k id v v me (λ c. omega arith) (λ c q at-c _. at-c) refl k.home (λ j u _. k.parked j u) (k.parked id v me);
           lock = lock_kept pass_seen book_seen made o.book s.words s.words s.homes s.homes s.views l id v v me refl refl refl (λ h. h) refl;
         },
         ((λ z. absurd (set-already z)), λ _. refl),
@@ -204,7 +204,7 @@ module _ {P B : Type 0} (pass_seen : P → PassSeen) (book_seen : B → BookSeen
           book = o.book;
           claims = rested made o.book s.words s.views a id v w s.words me refl (λ c. refl) refl refl refl was;
           counts = counts_kept made o.book s.views o.counts id v w me refl refl refl refl refl refl (λ _. inl refl);
-          slots = slots_set pass_seen book_seen made o.book s.words s.words s.homes hs s.views k id w (length-set s.homes (blocks_of made) none)
+          slots = slots_set pass_seen book_seen made o.book s.words s.words s.homes hs s.views k id v w me (λ c. omega arith) (λ c q at-c _. kept_none s.homes (blocks_of made) c q at-c) (length-set s.homes (blocks_of made) none)
               (λ j h q. pass_else pass_seen book_seen made o.book s.homes j (blocks_of made) none (λ e. omega arith) (k.home j h q))
               (λ j u _ at-j. parked_far o.book s.words s.homes s.views a j u.hand u.hand u none at-j (inl refl) (k.parked j u at-j))
               (parked_far o.book s.words s.homes s.views a id v.hand w.hand v none me (inr (inl free-hand)) (k.parked id v me));
@@ -230,7 +230,7 @@ module _ {P B : Type 0} (pass_seen : P → PassSeen) (book_seen : B → BookSeen
           book = o.book;
           claims = rested made o.book s.words s.views a id v w s.words me refl (λ c. refl) refl refl refl was;
           counts = counts_kept made o.book s.views o.counts id v w me refl refl refl refl refl refl (λ _. inl refl);
-          slots = slots_set pass_seen book_seen made o.book s.words s.words s.homes hs s.views k id w (length-set s.homes (blocks_of made) e)
+          slots = slots_set pass_seen book_seen made o.book s.words s.words s.homes hs s.views k id v w me (λ c. omega arith) (λ c q at-c _. kept_book s.homes (blocks_of made) shelf c q at-c) (length-set s.homes (blocks_of made) e)
               (λ j h q. pass_else pass_seen book_seen made o.book s.homes j (blocks_of made) e (λ z. omega arith) (k.home j h q))
               (λ j u _ at-j. parked_far o.book s.words s.homes s.views a j u.hand u.hand u e at-j (inl refl) (k.parked j u at-j))
               (parked_far o.book s.words s.homes s.views a id v.hand w.hand v e me (inr (inr (hand ∙ ap (λ (z : ℕ). z + 1) same-n))) (k.parked id v me));
@@ -352,6 +352,7 @@ module _ {P B : Type 0} (pass_seen : P → PassSeen) (book_seen : B → BookSeen
                 ((λ bad. home' i.block none-held (λ z. omega arith) (q.0 bad)), λ ok away. set_else s.homes (blocks_of made) i.block e (λ z. omega arith) ∙ q.1 ok away))
                 (k.parked j u t.1))
                 (at_set s.views id j w u at-j);
+            untouched = λ c q near at-c none-met. k.untouched c q near (kept_book s.homes (blocks_of made) shelf c q at-c) (omega (arith, none-met, total-set (other_at c) s.views id v w me));
           };
           lock = record {
             bit = omega (arith, total-set has_loan s.views id v w me, l.bit, ap lent has);

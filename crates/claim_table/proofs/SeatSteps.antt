@@ -67,6 +67,7 @@ module _ {P B : Type 0} (pass_seen : P → PassSeen) (book_seen : B → BookSeen
           home = o.slots.home;
           parked = λ j u e. ⊎_elim (λ (z : get_elem? vs j ≡ some u). ⊎_elim (λ t. subst (λ (c : View). Each (Parked pass_seen book_seen made o.book s.homes c.hand) c.held) t.1 (o.slots.parked id v me)) (λ t. o.slots.parked j u t.1) (at_set s.views id j l u z))
               (λ (z : r ≡ u). subst (λ (c : View). Each (Parked pass_seen book_seen made o.book s.homes c.hand) c.held) z tt) (at_snoc vs r u j e);
+          untouched = λ c q near at-c none-met. o.slots.untouched c q near at-c (omega (arith, none-met, both (other_at c)));
         };
         lock = record {
           bit = omega (arith, both has_loan, o.lock.bit);
@@ -130,6 +131,7 @@ module _ {P B : Type 0} (pass_seen : P → PassSeen) (book_seen : B → BookSeen
           long = o.slots.long;
           home = o.slots.home;
           parked = cases (λ x. Each (Parked pass_seen book_seen made o.book s.homes x.hand) x.held) tt (o.slots.parked id v me) o.slots.parked;
+          untouched = λ c q near at-c none-met. o.slots.untouched c q near at-c (omega (arith, none-met, both (other_at c), total-append (answered c) u.mine v.mine));
         };
         lock = record {
           bit = omega (arith, both has_loan, o.lock.bit, ap lent unlent);

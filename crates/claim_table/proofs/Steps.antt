@@ -31,7 +31,7 @@ use Rattle.claim_table.proofs.Sums.{total-set, term_le, terms_le}
 use Rattle.claim_table.proofs.LaneSteps.{lane_or, op_here, op_there, or_busy, or_none, or_set, same_lane}
 use Rattle.claim_table.proofs.Basics.{at_yes, at_no, each_map, each_at, some_term, only_one, refused_no, refused_else, as_no, refused_as_else, refused_as_other, free_as, said_yes, answered_yes, busy_no, alive, bad_or, found_none, found_else, good_answer, above_none}
 use Rattle.claim_table.proofs.WordParts.{fits_apart, moved, noted}
-use Rattle.claim_table.proofs.SlotParts.{counts_kept, pass_else, parked_apart, slots_set, lock_kept}
+use Rattle.claim_table.proofs.SlotParts.{counts_kept, pass_else, parked_apart, kept_had, slots_set, lock_kept}
 
 each_three : {A : Type 0} (P Q R : A → Type 0) (xs : List A) → Each P xs → Each Q xs → Each R xs → Each (λ x. P x × Q x × R x) xs
 each_three P Q R [] p q r = tt
@@ -111,7 +111,7 @@ module _ {P B : Type 0} (pass_seen : P → PassSeen) (book_seen : B → BookSeen
               omega (arith, h', total-set (busy_as b code) s.views id v w me, total-set (other_as b code) s.views id v w me, a.found b code, refused_as_other wd b code (λ z. far (omega (arith, z, lies))), as_no wd b b code))))
               (λ (ne : j ≢ b). omega (arith, h, total-set (busy_as j code) s.views id v w me, total-set (other_as j code) s.views id v w me, a.found j code, refused_as_else wd j b code ne, as_no wd b j code)));
           counts = counts_kept made o.book s.views o.counts id v w me refl refl refl refl refl refl (λ j. inl (omega (arith, found_none wd j b answer.Busy refl)));
-          slots = slots_set pass_seen book_seen made o.book s.words W s.homes s.homes s.views k id w refl (λ j h q. k.home j h (subst (λ (y : ℕ). y < 2 ^ 15) (same j) q)) (λ j u _. k.parked j u) mine;
+          slots = slots_set pass_seen book_seen made o.book s.words W s.homes s.homes s.views k id v w me (λ c. omega arith) (λ c q at-c _. at-c) refl (λ j h q. k.home j h (subst (λ (y : ℕ). y < 2 ^ 15) (same j) q)) (λ j u _. k.parked j u) mine;
           lock = lock_kept pass_seen book_seen made o.book s.words W s.homes s.homes s.views l id v w me zero-word refl refl (λ h. h) refl;
         },
         tell (w, m.1) ((λ _. (refl, crowd, (them.0.was, them.2.2.coded, lies))), λ l. absurd (omega arith)),
@@ -150,7 +150,7 @@ module _ {P B : Type 0} (pass_seen : P → PassSeen) (book_seen : B → BookSeen
           book = o.book;
           claims = claims' w refl refl refl refl refl (λ _. bad);
           counts = counts_kept made o.book s.views o.counts id v w me refl refl refl refl refl refl (λ j. dite (ℕ_discrete j b) (λ (q : j ≡ b). inr (ap (now_at o.book) q ∙ bad)) (λ (q : j ≢ b). inl (omega (arith, found_else wd j b (answer_of e) q))));
-          slots = slots_set pass_seen book_seen made o.book s.words W s.homes s.homes s.views k id w refl
+          slots = slots_set pass_seen book_seen made o.book s.words W s.homes s.homes s.views k id v w me (λ c. omega arith) (λ c q at-c _. at-c) refl
               (λ j h q. dite (ℕ_discrete j b) (λ z. absurd (omega (arith, subst (λ (y : ℕ). code_at W y < 2 ^ 15) z q))) (λ ne. k.home j h (subst (λ (y : ℕ). y < 2 ^ 15) (there j ne) q)))
               (λ j u _. k.parked j u) (((λ _. home), λ good. absurd (good bad)), mine);
           lock = lock_kept pass_seen book_seen made o.book s.words W s.homes s.homes s.views l id v w me zero-word refl refl (λ h. h) refl;
@@ -167,7 +167,7 @@ module _ {P B : Type 0} (pass_seen : P → PassSeen) (book_seen : B → BookSeen
           book = o.book;
           claims = claims' w refl refl refl refl refl (λ some-bad. o.counts.bad_met b (omega (arith, some-bad, total-set (bad_at b) s.views id v w me, found_none wd b b (answer_of e) (good_answer e good))));
           counts = counts_kept made o.book s.views o.counts id v w me refl refl refl refl refl refl (λ j. inl (omega (arith, found_none wd j b (answer_of e) (good_answer e good))));
-          slots = slots_set pass_seen book_seen made o.book s.words W s.homes hs s.views k id w (length-set s.homes b none)
+          slots = slots_set pass_seen book_seen made o.book s.words W s.homes hs s.views k id v w me (λ c. omega arith) (kept_had s.homes b s.views id v w none me (omega (arith, answered_yes wd b e))) (length-set s.homes b none)
               (λ j h q. dite (ℕ_discrete j b) (λ z. absurd (omega (arith, subst (λ (y : ℕ). code_at W y < 2 ^ 15) z q)))
               (λ ne. pass_else pass_seen book_seen made o.book s.homes j b none ne (k.home j h (subst (λ (y : ℕ). y < 2 ^ 15) (there j ne) q))))
               (λ j u ne at-j. parked_apart pass_seen book_seen made o.book s.homes b u.hand u.hand none u.held (apart j u ne at-j) (λ _ _ h. h) (k.parked j u at-j))

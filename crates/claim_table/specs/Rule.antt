@@ -1,5 +1,5 @@
 -- The rule of the table: what the words, the book, the slots and the views of the seats have to do with each other.
-use Rattle.std.specs.Prelude.{◌≡◌, ◌≢◌, ℕ, ◌+◌, ◌/◌, ◌%◌, ◌^◌, ◌<◌, ◌≤◌, Bool, true, false, List, [], ◌∷◌, length, map, slice_index, Some}
+use Rattle.std.specs.Prelude.{◌≡◌, ◌≢◌, ℕ, ◌+◌, ◌/◌, ◌%◌, ◌^◌, ◌<◌, ◌≤◌, Bool, true, false, List, [], ◌∷◌, length, map, slice_index, slice_index_or, Some, None}
 use mathlib.Core.Option as maybe
 use mathlib.Core.Option.{some}
 use lib.ListN.{get_elem?}
@@ -89,10 +89,12 @@ module _ {P B : Type 0} (pass_seen : P → PassSeen) (book_seen : B → BookSeen
   abbrev pub Parked : Made → BookSeen → List (maybe.Option (Slot P B)) → ℕ → Item → Type 0
   Parked made book homes hand i = (i.was ≡ Bad → PassHome made book homes i.block) × (i.was ≢ Bad → hand ≢ i.block + 1 → get_elem? homes i.block ≡ some (some slot.Empty))
 
+  -- A pass at home whose block no view ever had or met as bad tells what it told as the table was made.
   pub record Slots (made : Made) (book : BookSeen) (words : List ℕ) (homes : List (maybe.Option (Slot P B))) (views : List View) : Type 0 where
     pub long : length homes ≡ blocks_of made + 1
     pub home : (b : ℕ) → b < blocks_of made → code_at words b < 2 ^ 15 → PassHome made book homes b
     pub parked : (j : ℕ) (view : View) → get_elem? views j ≡ some view → Each (Parked made book homes view.hand) view.held
+    pub untouched : (b : ℕ) (pass : P) → b < blocks_of made → get_elem? homes b ≡ some (some (slot.Pass pass)) → total (other_at b) views ≡ 0 → (pass_seen pass).told ≡ slice_index_or made.told b None
 
   -- the book's place, with whatever stands there
   abbrev pub ShelfHome : Made → List (maybe.Option (Slot P B)) → Type 0

@@ -7,7 +7,7 @@ ghost use lib.ListN.{get_elem?};
 ghost use Rattle.claim_table.specs.declared.slot.Slot.TheVariants as Slot;
 ghost use Rattle.claim_table.specs.Sums.{total};
 ghost use Rattle.claim_table.specs.Views.{parts, parts_in};
-ghost use Rattle.claim_table.specs.Closings.{HasPass, HasAll, Returned, Gathered};
+ghost use Rattle.claim_table.specs.Closings.{HasPass, HasAll, Returned, Gathered, ToldKept, PassesKept, BookKept, NewDidNothing};
 ghost use Rattle.claim_table.specs.Seats.{view_of, IsSeatOf, IsIdle, made_in, room_of};
 
 use crate::slot::Slot;
@@ -97,3 +97,12 @@ impl<P: Pass, B: Book> ClaimTable<P, B> {
         (room, book)
     }
 }
+
+/// The laws that what comes back is as it was handed in: the passes where no seat made a claim, the book where none gave one back. Seats
+/// that are as they were made did neither. It does nothing.
+pub fn untouched_all<P: Pass, B: Book>()
+    ensures passes { PassesKept P.seen B.seen }
+    ensures told { ToldKept }
+    ensures book { BookKept }
+    ensures new { NewDidNothing P.seen B.seen }
+{}

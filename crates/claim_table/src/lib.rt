@@ -26,6 +26,7 @@ mod table;
 mod view;
 
 pub use claim::{Claim, Claimed};
+pub use closing::untouched_all;
 pub use opening::NewRefused;
 pub use run::{Run, RunClaim};
 pub use table::{ClaimSeat, ClaimTable};

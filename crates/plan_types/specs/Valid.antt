@@ -62,6 +62,8 @@ pub record IsRun (stores : List StorePlan) (run : RunPlan) : Type 0 where
   pub workers : All (IsWorker stores run.slaves) run.workers
   pub few_workers : length run.workers ≤ 512
   pub worker_numbers : (i : ℕ) → IfSome (slice_get run.workers i) (λ worker. worker.number ≡ i)
+  -- workers are numbered store by store, in order of definition
+  pub by_store : AllPairs (λ a b. a.store ≤ b.store) run.workers
   -- the stores of its shares are those of its workers
   pub worked : All (λ share. Contains (map (λ worker. worker.store) run.workers) share.store) run.shares
   pub shared : All (λ worker. Contains (map (λ share. share.store) run.shares) worker.store) run.workers

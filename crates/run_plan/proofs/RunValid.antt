@@ -1,10 +1,11 @@
 -- The runs of a plan are valid.
-use Rattle.std.proofs.Common.{◌≡◌, inl, inr, ℕ, zero, suc, List, [], ◌∷◌, ◌+◌, ◌<◌, ◌≤◌, Bool, true, false, cond, All, Contains, IfSome, Ok, filter, get_or, length, map, slice_get, ap, refl, sym, subst, ◌∙◌, arith}
+use Rattle.std.proofs.Common.{◌≡◌, inl, inr, ℕ, zero, suc, List, [], ◌∷◌, ◌+◌, ◌<◌, ◌≤◌, Bool, true, false, cond, All, AllPairs, Contains, IfSome, Ok, filter, get_or, length, map, slice_get, ap, refl, sym, subst, ◌∙◌, arith}
 use Rattle.std.specs.Prelude.{◌==◌, ◌||◌}
 use Rattle.std.specs.List.{list_any, range_with_len}
 use Rattle.std.proofs.lemmas.Bool.{cases_lt, eq-eqb, eqb-true}
 use Rattle.std.proofs.lemmas.List.{length-map}
-use Rattle.std.proofs.lemmas.List.Elements.{All-contains, All-filter, All-map, All-weaker, Contains-append_right, filter_passes}
+use Rattle.std.proofs.lemmas.List.Kept.{AllPairs-cons, AllPairs-filter}
+use Rattle.std.proofs.lemmas.List.Elements.{All-cons, All-contains, All-filter, All-map, All-nil, All-weaker, Contains-append_right, filter_passes}
 use Rattle.std.proofs.lemmas.List.Folds.{list_any_at}
 use Rattle.parm_records.specs.Ranges.{IsFrom, IsWd}
 use Rattle.parm_records.specs.declared.general.HdDef.{HdDef}
@@ -57,6 +58,14 @@ numbered_from n (w ∷ ws) e (suc i) =
     let same : n + 1 + i ≡ n + suc i = omega arith in
     subst (λ m. IfSome (slice_get ws i) (λ w. w.number ≡ m)) same (numbered_from (n + 1) ws rest i)
 
+from_least : (least b m : ℕ) → least ≤ b → All (λ x. least ≤ x) (range_with_len b m)
+from_least least b zero h = All-nil (λ x. least ≤ x)
+from_least least b (suc m) h = All-cons (λ x. least ≤ x) b (range_with_len (b + 1) m) h (from_least least (b + 1) m (omega arith))
+
+range_rises : (a n : ℕ) → AllPairs (λ x y. x ≤ y) (range_with_len a n)
+range_rises a zero = λ i j d below inside. absurd (omega arith)
+range_rises a (suc n) = AllPairs-cons (λ x y. x ≤ y) a (range_with_len (a + 1) n) (from_least a (a + 1) n (omega arith)) (range_rises (a + 1) n)
+
 pub run_valid : (stores : List StorePlan) (threads : List ℕ) (draft : Draft) → All IsStore stores → map (λ (s : StorePlan). s.threads) stores ≡ threads → IsReady threads draft → All (λ (share : Share). IfSome (slice_get stores share.store) (λ s. IsTransferOf s share.xfersize)) draft.run.shares → IsRun stores (run_of stores draft)
 run_valid stores threads draft valid same ready fits =
     let many : length threads ≡ length stores = sym (ap length same) ∙ length-map stores (λ (s : StorePlan). s.threads) in
@@ -65,7 +74,8 @@ run_valid stores threads draft valid same ready fits =
     let places = stores_of (length stores) shares in
     let parts = subst (λ n. All (IsPart n) shares) many ready.shares in
     let workers = workers_are stores draft.run.slaves draft.threads places valid ready.some_threads
-    (All-filter used (λ store. store < length stores) (range_with_len 0 (length stores)) (range_within 0 (length stores) (length stores) (omega arith))) in
+    (All-filter used (λ store. store < length stores) (range_with_len 0 (length stores)) (range_within 0 (length stores) (length stores) (omega arith)))
+    (AllPairs-filter (λ x y. x ≤ y) used (range_with_len 0 (length stores)) (range_rises 0 (length stores))) in
     let crowd = subst (λ n. workers_many threads (stores_of n shares) draft.threads ≤ 512) many ready.workers in
     let few = subst (λ ts. workers_many ts places draft.threads ≤ 512) (sym same) crowd in
     record {
@@ -82,6 +92,7 @@ run_valid stores threads draft valid same ready fits =
       workers = workers.all;
       few_workers = subst (λ n. n ≤ 512) (sym workers.count) few;
       worker_numbers = λ i. let zero_more : 0 + i ≡ i = omega arith in subst (λ m. IfSome (slice_get (run_of stores draft).workers i) (λ w. w.number ≡ m)) zero_more (numbered_from 0 (run_of stores draft).workers workers.numbers i);
+      by_store = workers.rise;
       worked = λ j x within.
           let store = (get_or shares j x).store in
           All-contains (Contains (map (λ (w : WorkerPlan). w.store) (run_of stores draft).workers)) places store workers.worked

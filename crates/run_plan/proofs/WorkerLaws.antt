@@ -1,12 +1,13 @@
 -- The workers of a run beside its stores and shares.
-use Rattle.std.proofs.Common.{◌≡◌, inl, inr, ℕ, zero, suc, List, [], ◌∷◌, ◌++◌, ◌+◌, ◌*◌, ◌/◌, ◌<◌, ◌≤◌, All, Contains, Option, Some, None, IfSome, get_or, length, map, slice_get, sum, ap, refl, sym, subst, ◌∙◌, append_assoc, append-nil, arith}
+use Rattle.std.proofs.Common.{◌≡◌, inl, inr, ℕ, zero, suc, List, [], ◌∷◌, ◌++◌, ◌+◌, ◌*◌, ◌/◌, ◌<◌, ◌≤◌, All, AllPairs, Contains, Option, Some, None, IfSome, get_or, length, map, slice_get, sum, ap, refl, sym, subst, ◌∙◌, append_assoc, append-nil, arith}
 use Rattle.std.specs.List.{range_with_len}
 use Rattle.std.proofs.Math.Nat.{mul-div-le, mul-le-mul_left, mul_comm}
 use Rattle.std.proofs.lemmas.Grind.{common_steps}
 use Rattle.std.proofs.lemmas.Bool.{cases_lt}
 use Rattle.std.proofs.lemmas.List.{length-append, map-append}
 use Rattle.std.proofs.lemmas.List.FromFn.{length-map-range_with_len}
-use Rattle.std.proofs.lemmas.List.Elements.{All-append, All-cons, All-head, All-map, All-nil, All-tail, All-weaker, Contains-append_left, Contains-append_right}
+use Rattle.std.proofs.lemmas.List.Kept.{AllPairs-cons}
+use Rattle.std.proofs.lemmas.List.Elements.{All-append, All-cons, All-contains, All-head, All-map, All-nil, All-tail, All-weaker, Contains-append_left, Contains-append_right}
 use Rattle.plan_types.specs.Valid.{IsStore, IsWorker}
 use Rattle.plan_types.specs.declared.run.WorkerPlan.{WorkerPlan}
 use Rattle.plan_types.specs.declared.store.StorePlan.{StorePlan}
@@ -102,6 +103,22 @@ first_in store (w ∷ ws) h all = (0, omega arith, All-head (λ (x : WorkerPlan)
 sum_cons : (x : ℕ) (xs : List ℕ) → sum (x ∷ xs) ≡ x + sum xs
 sum_cons x xs = grind (arith, common_steps)
 
+-- the stores of workers never fall
+abbrev Rise : List WorkerPlan → Type 0
+Rise = AllPairs (λ (a b : WorkerPlan). a.store ≤ b.store)
+
+-- the workers of one store, and then those of later ones
+risen : (store : ℕ) (here more : List WorkerPlan) → All (λ (w : WorkerPlan). w.store ≡ store) here → All (λ (w : WorkerPlan). store ≤ w.store) more → Rise more → Rise (here ++ more)
+risen store [] more same above rise = rise
+risen store (w ∷ here) more same above rise =
+    let first : w.store ≡ store = All-head (λ (x : WorkerPlan). x.store ≡ store) w here same in
+    let others = All-tail (λ (x : WorkerPlan). x.store ≡ store) w here same in
+    AllPairs-cons (λ (a b : WorkerPlan). a.store ≤ b.store) w (here ++ more)
+    (All-append (λ (x : WorkerPlan). w.store ≤ x.store) here more
+    (All-weaker (λ (x : WorkerPlan). x.store ≡ store) (λ (x : WorkerPlan). w.store ≤ x.store) (λ x e. omega arith) here others)
+    (All-weaker (λ (x : WorkerPlan). store ≤ x.store) (λ (x : WorkerPlan). w.store ≤ x.store) (λ x h. omega arith) more above))
+    (risen store here more others above rise)
+
 -- what the workers of stores are
 pub record AreWorkers (plans : List StorePlan) (slaves n : ℕ) (choice : Option ℕ) (stores : List ℕ) (ws : List WorkerPlan) : Type 0 where
   pub all : All (IsWorker plans slaves) ws
@@ -109,26 +126,29 @@ pub record AreWorkers (plans : List StorePlan) (slaves n : ℕ) (choice : Option
   pub count : length ws ≡ workers_many (map (λ (s : StorePlan). s.threads) plans) stores choice
   pub worked : All (Contains (map (λ (w : WorkerPlan). w.store) ws)) stores
   pub shared : All (λ (w : WorkerPlan). Contains stores w.store) ws
+  pub rise : Rise ws
 
 some_threads : (choice : Option ℕ) (own : ℕ) → IfSome choice (λ n. 0 < n) → 0 < own → 0 < or_else choice own
 some_threads (Some n) own h k = h
 some_threads None own h k = k
 
-deal_are : (plans : List StorePlan) (slaves : ℕ) (choice : Option ℕ) → All IsStore plans → IfSome choice (λ n. 0 < n) → (n : ℕ) (stores : List ℕ) → All (λ store. store < length plans) stores → AreWorkers plans slaves n choice stores (deal plans slaves choice n stores)
-deal_are plans slaves choice valid some n [] within = record {
+deal_are : (plans : List StorePlan) (slaves : ℕ) (choice : Option ℕ) → All IsStore plans → IfSome choice (λ n. 0 < n) → (n : ℕ) (stores : List ℕ) → All (λ store. store < length plans) stores → AllPairs (λ a b. a ≤ b) stores → AreWorkers plans slaves n choice stores (deal plans slaves choice n stores)
+deal_are plans slaves choice valid some n [] within ordered = record {
   all = All-nil (IsWorker plans slaves);
   numbers = refl;
   count = refl;
   worked = All-nil (Contains (map (λ (w : WorkerPlan). w.store) []));
   shared = All-nil (λ (w : WorkerPlan). Contains [] w.store);
+  rise = λ i j d below inside. absurd (omega arith);
 }
-deal_are plans slaves choice valid some n (store ∷ stores) within =
+deal_are plans slaves choice valid some n (store ∷ stores) within ordered =
     let inside = All-head (λ s. s < length plans) store stores within in
     let at = at_place plans store valid inside in
     let here = workers_at (slice_get plans store) store slaves choice n in
     let first = are_at plans slaves choice n store at.0 inside at.1 in
     let more = deal plans slaves choice (n + length here) stores in
-    let rest = deal_are plans slaves choice valid some (n + length here) stores (All-tail (λ s. s < length plans) store stores within) in
+    let rest = deal_are plans slaves choice valid some (n + length here) stores (All-tail (λ s. s < length plans) store stores within) (λ i j d below inside. ordered (suc i) (suc j) d (omega arith) (omega arith)) in
+    let later : All (λ s. store ≤ s) stores = λ k d inside. ordered zero (suc k) d (omega arith) (omega arith) in
     let joined : length (here ++ more) ≡ length here + length more = length-append here more in
     let places : map (λ (w : WorkerPlan). w.store) (here ++ more) ≡ map (λ (w : WorkerPlan). w.store) here ++ map (λ (w : WorkerPlan). w.store) more = map-append (λ (w : WorkerPlan). w.store) here more in
     let own : or_else choice at.0.threads ≡ threads_at (map (λ (s : StorePlan). s.threads) plans) choice store = ap (or_else choice) (sym at.1.threads) in
@@ -150,8 +170,12 @@ deal_are plans slaves choice valid some n (store ∷ stores) within =
           All-append (λ (w : WorkerPlan). Contains (store ∷ stores) w.store) here more
           (All-weaker (λ (w : WorkerPlan). w.store ≡ store) (λ (w : WorkerPlan). Contains (store ∷ stores) w.store) (λ w e. (0, omega arith, sym e)) here first.stores)
           (All-weaker (λ (w : WorkerPlan). Contains stores w.store) (λ (w : WorkerPlan). Contains (store ∷ stores) w.store) (λ w h. Contains-append_right (store ∷ []) stores w.store h) more rest.shared);
+      rise =
+          risen store here more first.stores
+          (All-weaker (λ (w : WorkerPlan). Contains stores w.store) (λ (w : WorkerPlan). store ≤ w.store) (λ w h. All-contains (λ s. store ≤ s) stores w.store later h) more rest.shared)
+          rest.rise;
     }
 
-pub workers_are : (plans : List StorePlan) (slaves : ℕ) (choice : Option ℕ) (stores : List ℕ) → All IsStore plans → IfSome choice (λ n. 0 < n) → All (λ store. store < length plans) stores → AreWorkers plans slaves 0 choice stores (workers_of plans slaves choice [] stores)
-workers_are plans slaves choice stores valid some within =
-    subst (AreWorkers plans slaves 0 choice stores) (sym (dealt plans slaves choice [] stores)) (deal_are plans slaves choice valid some 0 stores within)
+pub workers_are : (plans : List StorePlan) (slaves : ℕ) (choice : Option ℕ) (stores : List ℕ) → All IsStore plans → IfSome choice (λ n. 0 < n) → All (λ store. store < length plans) stores → AllPairs (λ a b. a ≤ b) stores → AreWorkers plans slaves 0 choice stores (workers_of plans slaves choice [] stores)
+workers_are plans slaves choice stores valid some within ordered =
+    subst (AreWorkers plans slaves 0 choice stores) (sym (dealt plans slaves choice [] stores)) (deal_are plans slaves choice valid some 0 stores within ordered)

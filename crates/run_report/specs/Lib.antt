@@ -5,3 +5,5 @@ pub mod Findings
 pub mod Lines
 pub mod Simulation
 pub mod Plans
+pub mod Runs
+pub mod RunSteps

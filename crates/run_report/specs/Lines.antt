@@ -1,4 +1,4 @@
--- The lines of a command but those of a store's verification.
+-- Lines of a command: the usage, a file that can't be opened or read, and a journal.
 use Rattle.std.specs.Prelude.{ℕ, List, codes, decimal}
 use Rattle.vd_base.specs.Name.{name_text}
 use Rattle.vd_base.specs.declared.geometry.StoreId.{StoreId}
@@ -17,6 +17,14 @@ cannot_read_text path = codes "cannot read " ⧺ path ⧺ codes "\n"
 abbrev pub journal_text : List ℕ → ℕ → ℕ → List ℕ
 journal_text name epoch records =
     codes "journal " ⧺ name_text name ⧺ codes " epoch " ⧺ decimal epoch ⧺ codes " records " ⧺ decimal records ⧺ codes "\n"
+
+-- one that was created, or opened
+abbrev pub opened_text : List ℕ → ℕ → List ℕ
+opened_text name epoch = codes "opened " ⧺ name_text name ⧺ codes " epoch " ⧺ decimal epoch ⧺ codes "\n"
+
+-- one in its last epoch, where a new one is needed
+abbrev pub epoch_end_text : List ℕ → List ℕ
+epoch_end_text name = codes "epoch end " ⧺ name_text name ⧺ codes "\n"
 
 -- one without a valid gate
 abbrev pub no_journal_text : List ℕ → List ℕ

@@ -1,6 +1,6 @@
-// Lines of a journal's recovery.
+// Lines of a journal's opening and recovery.
 ghost use Rattle.std.specs.Prelude.{◌≡◌, IfOk};
-ghost use Rattle.run_report.specs.Lines.{journal_text, no_journal_text, id_text, mismatch_text, damaged_text, journal_fault_text};
+ghost use Rattle.run_report.specs.Lines.{journal_text, opened_text, epoch_end_text, no_journal_text, id_text, mismatch_text, damaged_text, journal_fault_text};
 
 use std::alloc::Global;
 use vd_base::{StoreId, StoreName};
@@ -16,6 +16,20 @@ pub fn journal_line(
     ensures { IfOk result (λ line. line ≡ journal_text name.now epoch records) }
 {
     Ok(Text::of(format!(in alloc; "journal {name} epoch {epoch} records {records}\n")?))
+}
+
+/// The line of a journal that was created, or opened, in this epoch.
+pub fn opened_line(alloc: Global, name: &StoreName, epoch: u64) -> Result<Text, NoMemory>
+    ensures { IfOk result (λ line. line ≡ opened_text name.now epoch) }
+{
+    Ok(Text::of(format!(in alloc; "opened {name} epoch {epoch}\n")?))
+}
+
+/// The line of a journal in its last epoch, where a new one is needed.
+pub fn epoch_end_line(alloc: Global, name: &StoreName) -> Result<Text, NoMemory>
+    ensures { IfOk result (λ line. line ≡ epoch_end_text name.now) }
+{
+    Ok(Text::of(format!(in alloc; "epoch end {name}\n")?))
 }
 
 /// The line of a journal without a valid gate.
