@@ -1,0 +1,14 @@
+pub mod Acts
+pub mod Counts
+pub mod Doing
+pub mod Going
+pub mod Growing
+pub mod Holdings
+pub mod Lookings
+pub mod Markings
+pub mod Operatings
+pub mod Puttings
+pub mod Rises
+pub mod Sentences
+pub mod Taking
+pub mod Turnwise

@@ -1,0 +1,6 @@
+pub mod Looks
+pub mod Dids
+pub mod Standings
+pub mod Ends
+pub mod Sentences
+pub mod Works
