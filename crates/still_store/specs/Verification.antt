@@ -1,13 +1,14 @@
 -- What verifying a store prints, and what it counts.
-use Rattle.std.specs.Prelude.{◌≡◌, ℕ, ◌+◌, ◌-◌, ◌^◌, ◌≤◌, ◌==◌, min, Bool, true, false, IsTrue, List, [], ◌++◌, map, take, count_by, if◌then◌else◌}
+use Rattle.std.specs.Prelude.{◌≡◌, ℕ, ◌+◌, ◌-◌, ◌^◌, ◌≤◌, ◌==◌, min, Bool, true, false, IsTrue, List, [], ◌++◌, length, map, take, count_by, if◌then◌else◌}
 use Rattle.std.specs.List.{concat}
 use Rattle.vd_base.specs.declared.geometry.StoreId.{StoreId}
-use Rattle.vd_arm.specs.Arm.{PassSeen, Counted}
+use Rattle.vd_arm.specs.Arm.{PassSeen, ArmSeen, Counted}
 use Rattle.key_state.specs.declared.entry.Entry.{Entry}
 use Rattle.key_state.specs.declared.entry.Entry.TheVariants as entry
 use Rattle.block_verdict.specs.declared.finding.Finding.{Finding}
 use Rattle.recover_run.specs.declared.look.Look.{Look}
 use Rattle.recover_run.specs.Looks.{AreLooks, findings_from, is_seen, is_unread, is_corrupt}
+use Rattle.recover_run.specs.Part.{Called}
 use Rattle.plan_types.specs.declared.store.StorePlan.{StorePlan}
 use Rattle.run_report.specs.declared.finding.Verified.{Verified}
 use Rattle.run_report.specs.declared.status.Status.{Status}
@@ -80,3 +81,23 @@ pub data CameSoFar (old new : YardSeen) (store : StorePlan) (entries : List Entr
   begun : (n : ℕ) (passes : List PassSeen) (looks : List Look) → ArePassesOf old store passes
       → AreLooks store.id (take n entries) (take n passes) looks → RoseBy old new store.path (count_by is_unread looks)
       → Says before now (lines_of store.id (take n entries) looks) → CameSoFar old new store entries before now
+
+-- Reading ended with the piece in hand: before a write failed, the lines of all the blocks that were looked at went out whole, but for those
+-- of the last 1024 at most. Where one had failed before, nothing was looked at.
+pub data EndsWithPiece (id : StoreId) (entries : List Entry) (looks : List Look) (before now : Printing) : Type 0 where
+  none_looked : looks ≡ [] → EndsWithPiece id entries looks before now
+  piece_in_hand : (whole : ℕ) (rest : List ℕ) (between : Printing) → length looks ≤ whole + 1024
+      → Says before between (lines_of id (take whole entries) (take whole looks)) → between.failed ≡ false
+      → Says between now rest → EndsWithPiece id entries looks before now
+
+-- The arm was called for the looks up to there, and for no others.
+pub data StopsCalling (id : StoreId) (entries : List Entry) (passes : List PassSeen) (old new : ArmSeen) (before now : Printing) : Type 0 where
+  stops_calling : (n : ℕ) (looks : List Look) → AreLooks id (take n entries) (take n passes) looks → Called looks old new
+      → EndsWithPiece id entries looks before now → StopsCalling id entries passes old new before now
+
+-- The path's counts are those of the looks up to there, and of no others; or none was begun.
+pub data StopsReading (old new : YardSeen) (store : StorePlan) (entries : List Entry) (before now : Printing) : Type 0 where
+  none_begun : new.counts ≡ old.counts → StopsReading old new store entries before now
+  stops_reading : (n : ℕ) (passes : List PassSeen) (looks : List Look) → ArePassesOf old store passes
+      → AreLooks store.id (take n entries) (take n passes) looks → CountsRose old new store.path looks
+      → EndsWithPiece store.id entries looks before now → StopsReading old new store entries before now

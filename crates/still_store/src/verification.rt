@@ -13,7 +13,7 @@ ghost use Rattle.recover_run.specs.Part.{ArePart, Called};
 ghost use Rattle.run_report.specs.Findings.{IsPrintable};
 ghost use Rattle.run_report.specs.Says.{Says, printing};
 ghost use Rattle.vd_yard.specs.Contents.{AreBlocks};
-ghost use Rattle.still_store.specs.Verification.{findings_text, counted_of, lines_of, store_text, ArePassesOf, CountsRose, CameSoFar, is_pending as pends, is_bad as is_bad_entry};
+ghost use Rattle.still_store.specs.Verification.{findings_text, counted_of, lines_of, store_text, ArePassesOf, CountsRose, CameSoFar, StopsCalling, StopsReading, is_pending as pends, is_bad as is_bad_entry};
 ghost use Rattle.still_store.specs.Findings.{are_corrupt, are_unread, plus, AreSmall};
 
 use block_verdict::Finding;
@@ -238,6 +238,9 @@ fn verify_blocks<A: Arm, S: Sink>(
         × (min ((A.seen arm.old).faults + count_by is_unread_look looks) (2 ^ 64 - 1) ≤ (A.seen arm.new).faults)
         × Says (printing printer.old.failed (S.taken out.old) (S.faults out.old)) (printing printer.new.failed (S.taken out.new) (S.faults out.new))
         (lines_of store.now (take n entries.now) looks)) }
+    // After a failed write no further piece is read.
+    ensures stops { printer.new.failed ≡ true → StopsCalling store.now entries.now (map A.Pass.seen passes.now) (A.seen arm.old) (A.seen arm.new)
+        (printing printer.old.failed (S.taken out.old) (S.faults out.old)) (printing printer.new.failed (S.taken out.new) (S.faults out.new)) }
     ensures later { (A.seen arm.old).faults ≤ (A.seen arm.new).faults }
     ensures output { IsErrOf result NotVerified.Output → printer.new.failed ≡ true }
     ensures no_yard { IsErrOf result NotVerified.Yard → ⊥ }
@@ -308,6 +311,9 @@ fn verify_through<A: Arm, S: Sink>(
         × (min ((A.seen arm.old).faults + count_by is_unread_look looks) (2 ^ 64 - 1) ≤ (A.seen arm.new).faults)
         × Says (printing printer.old.failed (S.taken out.old) (S.faults out.old)) (printing printer.new.failed (S.taken out.new) (S.faults out.new))
         (lines_of store.now (take n entries.now) looks)) }
+    // After a failed write no further piece is read.
+    ensures stops { printer.new.failed ≡ true → StopsCalling store.now entries.now (map A.Pass.seen passes.now) (A.seen arm.old) (A.seen arm.new)
+        (printing printer.old.failed (S.taken out.old) (S.faults out.old)) (printing printer.new.failed (S.taken out.new) (S.faults out.new)) }
     ensures later { (A.seen arm.old).faults ≤ (A.seen arm.new).faults }
     ensures output { IsErrOf result NotVerified.Output → printer.new.failed ≡ true }
     ensures no_yard { IsErrOf result NotVerified.Yard → ⊥ }
@@ -351,6 +357,9 @@ pub fn verify_store<Y: Yard, S: Sink>(
         (store_text store.now.id entries.now looks)) }
     ensures front { OnErr result (CameSoFar (Y.seen yard.old) (Y.seen yard.new) store.now entries.now
         (printing printer.old.failed (S.taken out.old) (S.faults out.old)) (printing printer.new.failed (S.taken out.new) (S.faults out.new))) }
+    // After a failed write no further piece is read.
+    ensures stops { printer.new.failed ≡ true → StopsReading (Y.seen yard.old) (Y.seen yard.new) store.now entries.now
+        (printing printer.old.failed (S.taken out.old) (S.faults out.old)) (printing printer.new.failed (S.taken out.new) (S.faults out.new)) }
     ensures unopened { IsErrOf result NotVerified.Yard → (Rose (Y.seen yard.old).faults (Y.seen yard.new).faults)
         × (printer.new ≡ printer.old) × (out.new ≡ out.old) × ((Y.seen yard.new).counts ≡ (Y.seen yard.old).counts) }
     ensures yard_quiet { (IsErrOf result NotVerified.Yard → ⊥) → (Y.seen yard.new).faults ≡ (Y.seen yard.old).faults }

@@ -1,8 +1,10 @@
-use Rattle.std.proofs.Common.{◌≡◌, ◌≤◌, ◌++◌, [], length, map, refl, sym, ◌∙◌, arith, rules}
+use Rattle.std.proofs.Common.{◌≡◌, ◌+◌, ◌≤◌, ◌++◌, [], length, map, refl, sym, ◌∙◌, arith, rules}
 use Rattle.std.proofs.lemmas.List.{length-map}
 use Rattle.run_report.specs.Says.{says_along, says_then, says_none}
 use Rattle.recover_run.proofs.Looking.{no_looks, called_none, called_then, looks_as_many}
 use Rattle.still_store.proofs.Pieces.{piece_part, looked_then, counted_then, lines_then, nothing_counted, no_lines, small_sum}
+use Rattle.still_store.specs.Verification.{stops_calling}
+use Rattle.still_store.proofs.Ends.{ends_here, stops_none}
 use Rattle.still_store.proofs.verification.verify_blocks.Goals as goal
 
 pub loop-at-init : goal.loop-at-init
@@ -16,6 +18,7 @@ loop-at-init g c = record {
     called_none (g.A.Arm.seen c.args.arm.now),
     says_along _ _ _ _ (no_lines c.args.store.now) (says_none _),
   );
+  stops = λ failed. stops_none _ _ _ _ _ _;
 }
 
 pub verify_piece-requires-clause-part : goal.verify_piece-requires-clause-part
@@ -40,8 +43,10 @@ loop-at-preserved g c =
     let d = c.loop-at.invariant.done in
     let v = c.in_ok-more.ensures.looks in
     let le : c.loop-at.at ≤ c.min-end.result = omega arith in
+    let near : c.min-end.result ≤ c.loop-at.at + 1024 = omega arith in
+    let within : c.min-end.result ≤ length c.args.entries.now = omega arith in
     record {
-      within = omega arith;
+      within = within;
       room = c.verify_piece.ensures.size;
       done = (
         d.0 ++ v.0,
@@ -50,4 +55,8 @@ loop-at-preserved g c =
         called_then d.0 v.0 _ _ _ d.3 v.3,
         says_along _ _ _ _ (lines_then c.args.store.now c.args.entries.now c.loop-at.at c.min-end.result d.0 v.0 le c.loop-at.invariant.within (looks_as_many c.args.store.now _ _ d.0 d.1)) (says_then _ _ _ _ _ d.4 v.4),
       );
+      stops = λ failed. stops_calling c.min-end.result (d.0 ++ v.0)
+          (looked_then g.A.Pass.Pass.seen c.args.store.now c.args.entries.now c.args.passes.now c.loop-at.at c.min-end.result d.0 v.0 le d.1 v.1)
+          (called_then d.0 v.0 _ _ _ d.3 v.3)
+          (ends_here c.args.store.now c.args.entries.now c.loop-at.at c.min-end.result d.0 v.0 _ _ _ _ le near within (looks_as_many c.args.store.now _ _ d.0 d.1) (looks_as_many c.args.store.now _ _ v.0 v.1) (search rules) d.4 v.4);
     }

@@ -1,9 +1,9 @@
-use Rattle.std.proofs.Common.{◌≡◌, ◌≤◌, ◌-◌, List, length, take, map}
+use Rattle.std.proofs.Common.{◌≡◌, ◌≤◌, ◌-◌, List, length, take, map, true}
 use Rattle.recover_run.specs.declared.look.Look.{Look}
 use Rattle.recover_run.specs.Looks.{AreLooks}
 use Rattle.recover_run.specs.Part.{Called}
 use Rattle.run_report.specs.Says.{Says, printing}
-use Rattle.still_store.specs.Verification.{counted_of, lines_of}
+use Rattle.still_store.specs.Verification.{counted_of, lines_of, StopsCalling}
 use Rattle.still_store.proofs.verification.verify_blocks.Given as goal
 
 abbrev pub invariant-loop-at : goal.invariant-loop-at
@@ -16,6 +16,8 @@ invariant-loop-at g l = record {
       × Called looks (g.A.Arm.seen l.fn.arm) (g.A.Arm.seen l.arm)
       × Says (printing l.fn.printer.failed (g.S.Sink.taken l.fn.out) (g.S.Sink.faults l.fn.out)) (printing l.printer.failed (g.S.Sink.taken l.out) (g.S.Sink.faults l.out))
       (lines_of l.store (take l.at l.entries) looks);
+  stops : l.printer.failed ≡ true → StopsCalling l.store l.entries (map g.A.Pass.Pass.seen l.passes) (g.A.Arm.seen l.fn.arm) (g.A.Arm.seen l.arm)
+      (printing l.fn.printer.failed (g.S.Sink.taken l.fn.out) (g.S.Sink.faults l.fn.out)) (printing l.printer.failed (g.S.Sink.taken l.out) (g.S.Sink.faults l.out));
 }
 
 abbrev pub decreases-loop-at : goal.decreases-loop-at

@@ -2,7 +2,7 @@ use Rattle.std.proofs.Common.{◌≡◌, ◌∙◌, ap, map, subst, IsTrue, Resu
 use Rattle.vd_yard.specs.Yard.{Tells}
 use Rattle.std.specs.Prelude.{OnErr}
 use Rattle.run_report.specs.Says.{says_none}
-use Rattle.still_store.specs.Verification.{not_begun, begun}
+use Rattle.still_store.specs.Verification.{not_begun, begun, none_begun, stops_calling, stops_reading}
 use Rattle.still_store.proofs.Contents.{blocks_stay}
 use Rattle.std.proofs.lemmas.Result.{IfOk-weaker}
 use Rattle.vd_yard.specs.Out.{AtArm}
@@ -65,3 +65,26 @@ pub returns-in-NoMemory-clause-blocks : goal.returns-in-NoMemory-clause-blocks
 returns-in-NoMemory-clause-blocks g c =
     blocks_stay c.args.store.now _ _ _ _ _ (c.arm.ensures.opens.contents ∙ c.passes.ensures.opens.contents) c.keep_passes-in-Err.ensures.contents c.in-Ok.ensures.blocks
     (λ t. c.in-Ok.ensures.told (told_before _ _ (c.arm.ensures.opens.tells ∙ c.passes.ensures.opens.tells) t))
+
+pub returns-in-Err-Failed-clause-stops : goal.returns-in-Err-Failed-clause-stops
+returns-in-Err-Failed-clause-stops g c = λ failed. none_begun c.passes.ensures.opens.counts
+
+pub returns-in-Err-NoMemory-clause-stops : goal.returns-in-Err-NoMemory-clause-stops
+returns-in-Err-NoMemory-clause-stops g c = λ failed. none_begun c.passes.ensures.opens.counts
+
+pub returns-in-Failed-clause-stops : goal.returns-in-Failed-clause-stops
+returns-in-Failed-clause-stops g c = λ failed. none_begun (c.keep_passes-in-Err.ensures.counts ∙ (c.arm.ensures.opens.counts ∙ c.passes.ensures.opens.counts))
+
+pub returns-in-NoMemory-clause-stops : goal.returns-in-NoMemory-clause-stops
+returns-in-NoMemory-clause-stops g c = λ failed. none_begun (c.keep_passes-in-Err.ensures.counts ∙ (c.arm.ensures.opens.counts ∙ c.passes.ensures.opens.counts))
+
+pub returns-in-Ok-arm-clause-stops : goal.returns-in-Ok-arm-clause-stops
+returns-in-Ok-arm-clause-stops g c = λ failed. elim (c.verify_through-answer.ensures.stops failed) [
+  | stops_calling n looks looked called ends ↦ stops_reading n (map g.Y.Arm.Pass.Pass.seen c.as_slice.result.now) looks
+      (rw c.as_slice.ensures.value (record { blocks = c.in-Ok.ensures.blocks; told = c.in-Ok.ensures.told }))
+      looked
+      (counts_rose _ _ _ _ _ _ _ (c.arm.ensures.opens.counts ∙ c.passes.ensures.opens.counts) (c.keep_passes.ensures.counts ∙ c.keep_arm.ensures.counts) c.in-Ok-arm.ensures.fresh c.in-Ok-arm.ensures.none_read
+      (c.in-Ok-arm.ensures.sure ∙ ap (λ (t : Tells). t.sure AtArm c.args.store.now.path) c.passes.ensures.opens.tells)
+      called)
+      ends
+]

@@ -1,8 +1,9 @@
-use Rattle.std.proofs.Common.{◌≡◌, ◌++◌, length, map, sym, ap, ◌∙◌}
+use Rattle.std.proofs.Common.{◌≡◌, ◌++◌, length, map, refl, sym, ap, ◌∙◌}
 use Rattle.run_report.specs.Says.{says_along, says_then}
 use Rattle.run_report.specs.Findings.{verified_text}
 use Rattle.still_store.specs.Verification.{lines_of}
 use Rattle.still_store.proofs.Pieces.{front_none, front_all}
+use Rattle.still_store.proofs.Ends.{stops_none, stops_with_line}
 use Rattle.still_store.proofs.verification.verify_through.Goals as goal
 
 pub returns-in_default-clause-front : goal.returns-in_default-clause-front
@@ -23,3 +24,12 @@ returns-clause-looks g c =
       v.3,
       says_along _ _ _ _ (ap (λ t. lines_of c.args.store.now c.args.entries.now v.0 ++ t) (c.as_str.ensures ∙ (c.in-Ok-verified_line.ensures ∙ ap (verified_text c.args.store.now.name) v.2))) (says_then _ _ _ _ _ v.4 c.say.ensures.says),
     )
+
+pub returns-in_default-clause-stops : goal.returns-in_default-clause-stops
+returns-in_default-clause-stops g c = λ failed. stops_none _ _ _ _ _ _
+
+pub returns-clause-stops : goal.returns-clause-stops
+returns-clause-stops g c =
+    let v = c.in_ok-counted.ensures.looks in
+    let many : length (map g.A.Pass.Pass.seen c.args.passes.now) ≡ length c.args.entries.now = c.requires.blocks.as_many ∙ sym c.requires.one_each in
+    λ failed. stops_with_line c.args.store.now c.args.entries.now _ v.0 _ _ _ _ _ _ _ refl many c.verify_blocks.ensures.stops v.1 v.3 v.4 c.say.ensures.says
