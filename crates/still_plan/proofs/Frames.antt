@@ -4,7 +4,7 @@ use Rattle.std.specs.Prelude.{All, map, unwrap_or, Option}
 use Rattle.std.proofs.lemmas.List.Elements.{All-nil, All-cons, All-head, All-tail, All-map, All-contains}
 use Rattle.vd_yard.specs.Kept.{Kept, kept_at, bytes_at}
 use Rattle.vd_yard.specs.Contents.{file_block}
-use Rattle.vd_yard.specs.Counts.{Counts, arm_faults, good_reads}
+use Rattle.vd_yard.specs.Counts.{Counts, arm_faults, good_reads, good_writes}
 use Rattle.vd_yard.specs.Yard.{YardSeen}
 use Rattle.plan_types.specs.declared.store.StorePlan.{StorePlan}
 use Rattle.still_store.specs.Frame.{BlocksStay, Keeps}
@@ -17,6 +17,7 @@ keeps_same a b e = subst (λ (y : YardSeen). Keeps a y) (sym e) (record {
   later = omega arith;
   sources = λ path. omega arith;
   arms = λ path. omega arith;
+  writes = λ path. omega arith;
   willing = λ w. w;
   files = λ kind path t. t;
 })
@@ -28,15 +29,16 @@ keeps_then a b c p q = record {
   later = omega (arith, p.later, q.later);
   sources = λ path. omega (arith, p.sources path, q.sources path);
   arms = λ path. omega (arith, p.arms path, q.arms path);
+  writes = λ path. omega (arith, p.writes path, q.writes path);
   willing = λ w. q.willing (p.willing w);
   files = λ kind path t. q.files kind path (p.files kind path t);
 }
 
 pub counts_same : (a b : YardSeen) (path : List ℕ) → b.counts ≡ a.counts → CountsStay a b path
-counts_same a b path e = record { faults = ap (λ (c : Counts). arm_faults c path) e; reads = ap (λ (c : Counts). good_reads c path) e }
+counts_same a b path e = record { faults = ap (λ (c : Counts). arm_faults c path) e; reads = ap (λ (c : Counts). good_reads c path) e; writes = ap (λ (c : Counts). good_writes c path) e }
 
 pub counts_then : (a b c : YardSeen) (path : List ℕ) → CountsStay a b path → CountsStay b c path → CountsStay a c path
-counts_then a b c path p q = record { faults = q.faults ∙ p.faults; reads = q.reads ∙ p.reads }
+counts_then a b c path p q = record { faults = q.faults ∙ p.faults; reads = q.reads ∙ p.reads; writes = q.writes ∙ p.writes }
 
 -- ---- stores whose paths differ
 unfoldable pub Differs : StorePlan → StorePlan → Type 0

@@ -5,7 +5,7 @@ use Rattle.vd_disk.specs.Disk.{DiskSeen}
 use Rattle.plan_types.specs.declared.store.StorePlan.{StorePlan}
 use Rattle.vd_yard.specs.Kept.{Kept, kept_at, bytes_at}
 use Rattle.vd_yard.specs.Contents.{file_block}
-use Rattle.vd_yard.specs.Counts.{arm_faults, good_reads}
+use Rattle.vd_yard.specs.Counts.{arm_faults, good_reads, good_writes}
 use Rattle.vd_yard.specs.Yard.{YardSeen}
 
 -- no two of these stores have one path
@@ -31,6 +31,7 @@ pub record StoresStay (stores : List StorePlan) (old new : Kept (List ℕ)) : Ty
 pub record CountsStay (old new : YardSeen) (path : List ℕ) : Type 0 where
   pub faults : arm_faults new.counts path ≡ arm_faults old.counts path
   pub reads : good_reads new.counts path ≡ good_reads old.counts path
+  pub writes : good_writes new.counts path ≡ good_writes old.counts path
 
 -- what is kept at a path, and what is counted of its arms, stays
 pub record IsLeft (old new : YardSeen) (path : List ℕ) : Type 0 where

@@ -4,16 +4,18 @@ use Rattle.vd_disk.specs.Disk.{DiskSeen}
 use Rattle.plan_types.specs.declared.store.StorePlan.{StorePlan}
 use Rattle.vd_yard.specs.Kept.{Kept, kept_at, bytes_at}
 use Rattle.vd_yard.specs.Contents.{file_block}
-use Rattle.vd_yard.specs.Counts.{source_faults, arm_faults}
+use Rattle.vd_arm.specs.Arm.{Counted}
+use Rattle.vd_yard.specs.Counts.{source_faults, arm_faults, good_writes}
 use Rattle.vd_yard.specs.Yard.{YardSeen, StaysThere}
 
--- nothing of this part is out, what is told stays, and no count of faults falls
+-- nothing of this part is out, what is told stays, no count of faults falls, and no path's good writes rose, modulo 2^64
 pub record Keeps (old new : YardSeen) : Type 0 where
   pub out : new.out ≡ old.out
   pub tells : new.tells ≡ old.tells
   pub later : old.faults ≤ new.faults
   pub sources : (path : List ℕ) → source_faults old.counts path ≤ source_faults new.counts path
   pub arms : (path : List ℕ) → arm_faults old.counts path ≤ arm_faults new.counts path
+  pub writes : (path : List ℕ) → Counted 0 (good_writes old.counts path) (good_writes new.counts path)
   pub willing : IsTrue old.willing → IsTrue new.willing
   pub files : StaysThere old.files new.files
 

@@ -6,7 +6,7 @@ ghost use Rattle.block_verdict.specs.declared.finding.Finding.{Finding as AFindi
 ghost use Rattle.recover_run.specs.declared.look.Look.{Look as ALook};
 ghost use Rattle.recover_run.specs.Looks.{AreLooks, findings_from, is_unread as is_unread_look};
 ghost use Rattle.vd_outside.specs.Causes.{Rose};
-ghost use Rattle.vd_yard.specs.Counts.{source_faults, arm_faults, good_reads};
+ghost use Rattle.vd_yard.specs.Counts.{source_faults, arm_faults, good_reads, good_writes};
 ghost use Rattle.vd_yard.specs.Yard.{HasFiles};
 ghost use Rattle.still_store.specs.Frame.{Keeps, BlocksStay};
 ghost use Rattle.recover_run.specs.Part.{ArePart, Called};
@@ -193,6 +193,7 @@ fn verify_piece<A: Arm, S: Sink>(
         (findings_text store.now (findings_from first entries.now looks))) }
     ensures refused { OnErr result ((out.new ≡ out.old) × (printer.new ≡ printer.old)) }
     ensures later { (A.seen arm.old).faults ≤ (A.seen arm.new).faults }
+    ensures writes { (A.seen arm.new).good_writes ≡ (A.seen arm.old).good_writes }
     ensures size { length room.new.block.items ≡ store.now.geometry.block_size }
 {
     room.found.clear();
@@ -242,6 +243,7 @@ fn verify_blocks<A: Arm, S: Sink>(
     ensures stops { printer.new.failed ≡ true → StopsCalling store.now entries.now (map A.Pass.seen passes.now) (A.seen arm.old) (A.seen arm.new)
         (printing printer.old.failed (S.taken out.old) (S.faults out.old)) (printing printer.new.failed (S.taken out.new) (S.faults out.new)) }
     ensures later { (A.seen arm.old).faults ≤ (A.seen arm.new).faults }
+    ensures writes { (A.seen arm.new).good_writes ≡ (A.seen arm.old).good_writes }
     ensures output { IsErrOf result NotVerified.Output → printer.new.failed ≡ true }
     ensures no_yard { IsErrOf result NotVerified.Yard → ⊥ }
 {
@@ -315,6 +317,7 @@ fn verify_through<A: Arm, S: Sink>(
     ensures stops { printer.new.failed ≡ true → StopsCalling store.now entries.now (map A.Pass.seen passes.now) (A.seen arm.old) (A.seen arm.new)
         (printing printer.old.failed (S.taken out.old) (S.faults out.old)) (printing printer.new.failed (S.taken out.new) (S.faults out.new)) }
     ensures later { (A.seen arm.old).faults ≤ (A.seen arm.new).faults }
+    ensures writes { (A.seen arm.new).good_writes ≡ (A.seen arm.old).good_writes }
     ensures output { IsErrOf result NotVerified.Output → printer.new.failed ≡ true }
     ensures no_yard { IsErrOf result NotVerified.Yard → ⊥ }
 {
@@ -330,7 +333,7 @@ fn verify_through<A: Arm, S: Sink>(
 }
 
 /// Opens a store's passes and an arm, verifies all its blocks, prints their findings and the line that ends them, and gives back what it opened.
-#[tactic(auto, using(vd_yard::specs::Out::one_more_here, vd_yard::specs::Out::one_more_cancel, vd_yard::specs::Out::one_more_swap, vd_yard::specs::Counts::arm_faults_here, vd_yard::specs::Counts::arm_faults_grow, vd_yard::specs::Counts::arm_faults_none, vd_yard::specs::Counts::arm_faults_other, vd_yard::specs::Counts::good_reads_other, vd_yard::specs::Counts::source_faults_of_arm, crate::proofs::Frames::blocks_same))]
+#[tactic(auto, using(vd_yard::specs::Out::one_more_here, vd_yard::specs::Out::one_more_cancel, vd_yard::specs::Out::one_more_swap, vd_yard::specs::Counts::arm_faults_here, vd_yard::specs::Counts::arm_faults_grow, vd_yard::specs::Counts::arm_faults_none, vd_yard::specs::Counts::arm_faults_other, vd_yard::specs::Counts::good_reads_other, vd_yard::specs::Counts::good_writes_other, vd_yard::specs::Counts::good_writes_none, vd_yard::specs::Counts::source_faults_of_arm, crate::proofs::Frames::blocks_same))]
 pub fn verify_store<Y: Yard, S: Sink>(
     alloc: Global,
     yard: &mut Y,
@@ -346,7 +349,8 @@ pub fn verify_store<Y: Yard, S: Sink>(
     ensures sources { (q : List ℕ) → source_faults (Y.seen yard.new).counts q ≡ source_faults (Y.seen yard.old).counts q }
     ensures elsewhere { (q : List ℕ) → (q ≡ store.now.path → ⊥) →
         (arm_faults (Y.seen yard.new).counts q ≡ arm_faults (Y.seen yard.old).counts q)
-        × (good_reads (Y.seen yard.new).counts q ≡ good_reads (Y.seen yard.old).counts q) }
+        × (good_reads (Y.seen yard.new).counts q ≡ good_reads (Y.seen yard.old).counts q)
+        × (good_writes (Y.seen yard.new).counts q ≡ good_writes (Y.seen yard.old).counts q) }
     ensures blocks { BlocksStay store.now (Y.seen yard.old).contents (Y.seen yard.new).contents }
     ensures looks { IfOk result (λ counted. (passes : List PassSeen) × (looks : List ALook)
         × ArePassesOf (Y.seen yard.old) store.now passes

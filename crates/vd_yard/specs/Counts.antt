@@ -132,6 +132,11 @@ pub good_writes_here : (c : Counts) (p : List ℕ) (f r w : ℕ) → good_writes
 unfolding good_writes add_arm
 good_writes_here c p f r w = ap (λ (s : PathCounts). s.good_writes) (picked (bytes_eq p p) _ _ ((bytes_eq-Decides p p).1 refl))
 
+pub good_writes_other : (c : Counts) (p : List ℕ) (f r w : ℕ) (q : List ℕ) → (q ≡ p → ⊥) → good_writes (add_arm c p f r w) q ≡ good_writes c q
+unfolding good_writes add_arm
+good_writes_other c p f r w q n =
+    ap (λ (s : PathCounts). s.good_writes) (not_there (bytes_eq p q) _ _ (λ e. n (sym ((bytes_eq-Decides p q).0 e))))
+
 pub good_reads : Counts → List ℕ → ℕ
 good_reads c q = (c.at q).good_reads
 
@@ -159,6 +164,15 @@ pick_writes false c d = refl
 pub good_writes_of_source : (c : Counts) (p : List ℕ) (n : ℕ) (q : List ℕ) → good_writes (add_source c p n) q ≡ good_writes c q
 unfolding good_writes add_source
 good_writes_of_source c p n q = rw (pick_writes (bytes_eq p q)) (same_cond (bytes_eq p q) _)
+
+none_written : (b : Bool) (n : ℕ) → cond b ((n + 0) % 2 ^ 64) n % 2 ^ 64 ≡ (n + 0) % 2 ^ 64
+none_written true n = omega arith
+none_written false n = omega arith
+
+-- an arm that wrote nothing leaves the counts of good writes, modulo 2^64
+pub good_writes_none : (c : Counts) (p : List ℕ) (f r : ℕ) (q : List ℕ) → good_writes (add_arm c p f r 0) q % 2 ^ 64 ≡ (good_writes c q + 0) % 2 ^ 64
+unfolding good_writes add_arm
+good_writes_none c p f r q = rw (pick_writes (bytes_eq p q)) (none_written (bytes_eq p q) (c.at q).good_writes)
 
 pub add_arm_by : (f h : List ℕ → PathCounts) (path : List ℕ) (n r w : ℕ) →
     ((q : List ℕ) → h q ≡ (if bytes_eq path q then record {

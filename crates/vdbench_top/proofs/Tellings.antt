@@ -75,7 +75,7 @@ pub record WasRead (a b : YardSeen) : Type 0 where
   pub disks : b.disks ≡ a.disks
 
 pub untouched_same : (a : YardSeen) → IsUntouched a a
-untouched_same a = record { unopened = record { contents = refl; counts = λ path. record { faults = refl; reads = refl } }; disks = refl }
+untouched_same a = record { unopened = record { contents = refl; counts = λ path. record { faults = refl; reads = refl; writes = refl } }; disks = refl }
 
 pub untouched_earlier : (a b c : YardSeen) → WasRead a b → IsUntouched b c → IsUntouched a c
 untouched_earlier a b c w u = record {

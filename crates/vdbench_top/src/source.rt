@@ -2,7 +2,7 @@
 ghost use Rattle.std.specs.Prelude.{◌≡◌, ◌≤◌, ◌<◌, ◌-◌, ◌^◌, ℕ, List, take, IfOk, OnErr, OnOk, IsErrOf, Some, IsTrue};
 ghost use Rattle.vd_outside.specs.Causes.{Rose};
 ghost use Rattle.vd_yard.specs.Out.{AtSource};
-ghost use Rattle.vd_yard.specs.Counts.{source_faults, arm_faults, good_reads};
+ghost use Rattle.vd_yard.specs.Counts.{source_faults, arm_faults, good_reads, good_writes};
 ghost use Rattle.vd_yard.specs.Yard.{is_there};
 ghost use Rattle.vdbench_top.specs.Bytes.{AllUpTo};
 ghost use Rattle.still_store.specs.Frame.{Keeps};
@@ -52,13 +52,14 @@ fn read_all<S: Source>(alloc: Global, source: &mut S) -> Result<Vec<u8>, Unread>
 }
 
 /// All bytes of a file of the yard, up to the limit.
-#[tactic(auto, using(vd_yard::specs::Out::one_more_here, vd_yard::specs::Out::one_more_cancel, vd_yard::specs::Counts::source_faults_here, vd_yard::specs::Counts::source_faults_none, vd_yard::specs::Counts::source_faults_grow, vd_yard::specs::Counts::arm_faults_of_source, vd_yard::specs::Counts::good_reads_of_source))]
+#[tactic(auto, using(vd_yard::specs::Out::one_more_here, vd_yard::specs::Out::one_more_cancel, vd_yard::specs::Counts::source_faults_here, vd_yard::specs::Counts::source_faults_none, vd_yard::specs::Counts::source_faults_grow, vd_yard::specs::Counts::arm_faults_of_source, vd_yard::specs::Counts::good_reads_of_source, vd_yard::specs::Counts::good_writes_of_source))]
 pub fn read_file<Y: Yard>(alloc: Global, yard: &mut Y, path: &Text) -> Result<Vec<u8>, Unread>
     ensures keeps { Keeps (Y.seen yard.old) (Y.seen yard.new) }
     ensures disks { (Y.seen yard.new).disks ≡ (Y.seen yard.old).disks }
     ensures contents { (Y.seen yard.new).contents ≡ (Y.seen yard.old).contents }
     ensures arms { (q : List ℕ) → arm_faults (Y.seen yard.new).counts q ≡ arm_faults (Y.seen yard.old).counts q }
     ensures reads { (q : List ℕ) → good_reads (Y.seen yard.new).counts q ≡ good_reads (Y.seen yard.old).counts q }
+    ensures writes { (q : List ℕ) → good_writes (Y.seen yard.new).counts q ≡ good_writes (Y.seen yard.old).counts q }
     ensures exact { (bytes : List ℕ) → (Y.seen yard.old).tells.bytes path.now ≡ Some bytes → IfOk result (λ v. v.items ≡ take 1048577 bytes) }
     ensures yard_fault { IsErrOf result Unread.Yard → Rose (Y.seen yard.old).faults (Y.seen yard.new).faults }
     ensures willing { IsTrue (Y.seen yard.old).willing → IsTrue (is_there (Y.seen yard.old).files AtSource path.now) → IsErrOf result Unread.Yard → ⊥ }

@@ -17,7 +17,7 @@ returns-in-Ok-clause-said g c =
     (record {
       later = record { disks = λ path. ap (λ (k : Kept DiskSeen). kept_at k path) c.read_file.ensures.disks; faults = c.in-Ok.ensures.yard_quiet (λ e. cc); keeps = c.read_file.ensures.keeps };
       contents = c.read_file.ensures.contents;
-      counts = λ path. record { faults = c.read_file.ensures.arms path; reads = c.read_file.ensures.reads path };
+      counts = λ path. record { faults = c.read_file.ensures.arms path; reads = c.read_file.ensures.reads path; writes = c.read_file.ensures.writes path };
       disks = c.read_file.ensures.disks;
     })
     (λ parameters told. c.as_slice.ensures.value ∙ c.in-Ok.ensures.exact parameters told) c.run_parameters.ensures.said
@@ -39,14 +39,14 @@ pub returns-in-Err-NoMemory-clause-journals : goal.returns-in-Err-NoMemory-claus
 returns-in-Err-NoMemory-clause-journals g c = journals_same _ _ c.read_file.ensures.disks
 
 pub returns-in-Err-NoMemory-clause-said : goal.returns-in-Err-NoMemory-clause-said
-returns-in-Err-NoMemory-clause-said g c = ([], says_none _, unkept (record { unopened = record { contents = c.read_file.ensures.contents; counts = λ path. record { faults = c.read_file.ensures.arms path; reads = c.read_file.ensures.reads path } }; disks = c.read_file.ensures.disks }) refl refl)
+returns-in-Err-NoMemory-clause-said g c = ([], says_none _, unkept (record { unopened = record { contents = c.read_file.ensures.contents; counts = λ path. record { faults = c.read_file.ensures.arms path; reads = c.read_file.ensures.reads path; writes = c.read_file.ensures.writes path } }; disks = c.read_file.ensures.disks }) refl refl)
 
 pub returns-in-Err-Yard-clause-said : goal.returns-in-Err-Yard-clause-said
 returns-in-Err-Yard-clause-said g c =
     said_unopened _ _ _ _ _ _ _ (said_or _ _ _ _ _ _ c.cannot_open_line.ensures c.say_line.ensures) (c.in-Err-Yard.ensures.yard_fault (cc c.in-Err-Yard.field-0-is)) (λ w t. c.in-Err-Yard.ensures.willing w t (cc c.in-Err-Yard.field-0-is))
-    (record { unopened = record { contents = c.read_file.ensures.contents; counts = λ path. record { faults = c.read_file.ensures.arms path; reads = c.read_file.ensures.reads path } }; disks = c.read_file.ensures.disks })
+    (record { unopened = record { contents = c.read_file.ensures.contents; counts = λ path. record { faults = c.read_file.ensures.arms path; reads = c.read_file.ensures.reads path; writes = c.read_file.ensures.writes path } }; disks = c.read_file.ensures.disks })
 
 pub returns-in-Err-Source-clause-said : goal.returns-in-Err-Source-clause-said
 returns-in-Err-Source-clause-said g c =
     said_unread _ _ _ _ _ _ _ (said_or _ _ _ _ _ _ c.cannot_read_line.ensures c.say_line-in-Err-Source.ensures) (c.in-Err-Source.ensures.source_fault (cc c.in-Err-Source.field-0-is)) (λ s. c.in-Err-Source.ensures.sure s (cc c.in-Err-Source.field-0-is))
-    (record { unopened = record { contents = c.read_file.ensures.contents; counts = λ path. record { faults = c.read_file.ensures.arms path; reads = c.read_file.ensures.reads path } }; disks = c.read_file.ensures.disks })
+    (record { unopened = record { contents = c.read_file.ensures.contents; counts = λ path. record { faults = c.read_file.ensures.arms path; reads = c.read_file.ensures.reads path; writes = c.read_file.ensures.writes path } }; disks = c.read_file.ensures.disks })
