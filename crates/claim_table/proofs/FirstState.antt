@@ -84,6 +84,7 @@ module _ {P B : Type 0} (pass_seen : P → PassSeen) (book_seen : B → BookSeen
           spoilt = omega arith;
           bad_met = λ b h. absurd (omega arith);
           follows = follows_same made.book;
+          after = tt;
           given = inl refl;
           idle = λ j u e q. only_first (λ z. (z.wrote ≡ []) × (z.cleared ≡ []) × (z.spoilt ≡ []) × (z.gave ≡ [])) v j u e (refl, refl, refl, refl);
           told_shut = λ j u e q. absurd (only_first (λ z. z.shut ≡ true → ⊥) v j u e (λ z. false≢true z) q);

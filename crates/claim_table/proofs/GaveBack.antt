@@ -6,7 +6,7 @@ use native.Mathlib.Decide.{ℕ_discrete}
 use lib.ListN.{get_elem?}
 use Rattle.atomic_table.proofs.Lists.{set_else}
 use Rattle.key_state.specs.declared.seen.BookSeen.{BookSeen}
-use Rattle.claim_table.specs.Sums.{Among}
+use Rattle.claim_table.specs.Sums.{Each, Among}
 use Rattle.claim_table.specs.Views.{parts_in, parts, gave_by}
 use Rattle.claim_table.specs.Rule.{Claims, Counts}
 use Rattle.claim_table.specs.declared.view.View.{View}
@@ -27,6 +27,44 @@ among_either x (z ∷ xs) ys h = ⊎_elim (λ (e : x ≡ z). inl (inl e)) (λ (t
 
 pub among_more : {A : Type 0} (x y : A) (xs ys : List A) → (Among x xs → Among x ys) → Among x (y ∷ xs) → Among x (y ∷ ys)
 among_more x y xs ys f h = ⊎_elim (λ (e : x ≡ y). inl e) (λ (t : Among x xs). inr (f t)) h
+
+pub each_of : {A : Type 0} (P : A → Type 0) (xs : List A) → ((x : A) → Among x xs → P x) → Each P xs
+each_of P [] f = tt
+each_of P (x ∷ xs) f = (f x (inl refl), each_of P xs (λ y h. f y (inr h)))
+
+pub each_among : {A : Type 0} (P : A → Type 0) (x : A) (xs : List A) → Each P xs → Among x xs → P x
+each_among P x [] each h = absurd h
+each_among P x (y ∷ xs) each h = ⊎_elim (λ (e : x ≡ y). subst P (sym e) each.0) (λ (t : Among x xs). each_among P x xs each.1 t) h
+
+pub each_append : {A : Type 0} (P : A → Type 0) (xs ys : List A) → Each P xs → Each P ys → Each P (xs ++ ys)
+each_append P [] ys front back = back
+each_append P (x ∷ xs) ys front back = (front.0, each_append P xs ys front.1 back)
+
+pub each_front : {A : Type 0} (P : A → Type 0) (xs ys : List A) → Each P (xs ++ ys) → Each P xs
+each_front P [] ys h = tt
+each_front P (x ∷ xs) ys h = (h.0, each_front P xs ys h.1)
+
+each_back : {A : Type 0} (P : A → Type 0) (xs ys : List A) → Each P (xs ++ ys) → Each P ys
+each_back P [] ys h = h
+each_back P (x ∷ xs) ys h = each_back P xs ys h.1
+
+-- a fact of each book that was given back
+module _ (P : BookSeen → Type 0) where
+  pub each_at : (views : List View) (j : ℕ) (u : View) → get_elem? views j ≡ some u → Each P (gave_by views) → Each P u.gave
+  each_at [] j u e h = absurd (some-ne-none u (sym e))
+  each_at (v ∷ vs) zero u e h = subst (λ (w : View). Each P w.gave) (some-injective v u e) (each_front P v.gave (gave_by vs) h)
+  each_at (v ∷ vs) (suc j) u e h = each_at vs j u e (each_back P v.gave (gave_by vs) h)
+
+  -- one view changes, and it is true of each that this has
+  pub each_set : (views : List View) (id : ℕ) (w : View) → Each P w.gave → Each P (gave_by views) → Each P (gave_by (set views id w))
+  each_set [] id w mine h = tt
+  each_set (v ∷ vs) zero w mine h = each_append P w.gave (gave_by vs) mine (each_back P v.gave (gave_by vs) h)
+  each_set (v ∷ vs) (suc id) w mine h = each_append P v.gave (gave_by (set vs id w)) (each_front P v.gave (gave_by vs) h) (each_set vs id w mine (each_back P v.gave (gave_by vs) h))
+
+  -- there is one view more
+  pub each_snoc : (views : List View) (r : View) → Each P r.gave → Each P (gave_by views) → Each P (gave_by (views ++ r ∷ []))
+  each_snoc [] r mine h = each_append P r.gave [] mine tt
+  each_snoc (v ∷ vs) r mine h = each_append P v.gave (gave_by (vs ++ r ∷ [])) (each_front P v.gave (gave_by vs) h) (each_snoc vs r mine (each_back P v.gave (gave_by vs) h))
 
 gave_at : (x : BookSeen) (views : List View) → Among x (gave_by views) → (j : ℕ) × (u : View) × (get_elem? views j ≡ some u) × Among x u.gave
 gave_at x [] h = absurd h

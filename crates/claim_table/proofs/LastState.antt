@@ -23,7 +23,7 @@ use Rattle.claim_table.specs.declared.slot.Slot.{Slot}
 use Rattle.claim_table.specs.declared.slot.Slot.TheVariants as slot
 use Rattle.claim_table.proofs.Sums.{total-append, terms_le}
 use Rattle.claim_table.proofs.Basics.{each_map, some_same}
-use Rattle.claim_table.proofs.GaveBack.{among_left, among_right, among_either, among_more, gave_alone}
+use Rattle.claim_table.proofs.GaveBack.{among_left, among_right, among_either, among_more, each_among, each_append, each_at, each_front, each_of, gave_alone}
 use Rattle.claim_table.proofs.SlotParts.{same_pass}
 use Rattle.claim_table.proofs.Steps.{K}
 use Rattle.claim_table.specs.Seats.{view_of}
@@ -63,6 +63,7 @@ map_at f (z ∷ xs) (suc i) x y at is = map_at f xs i x y at is
 -- what the book has to do with the views of a seat that has every part
 pub record Tallied (made : Made) (v : View) (book : BookSeen) : Type 0 where
   pub follows : Follows made.book book
+  pub after : Each (λ old. Follows old book) v.gave
   pub given : Among book (made.book ∷ v.gave)
   pub ends : book.ends ≡ (made.book.ends + length v.wrote) % 2 ^ 64
   pub clears : book.clears ≡ (made.book.clears + length v.cleared) % 2 ^ 64
@@ -97,6 +98,7 @@ module _ {P B : Type 0} (pass_seen : P → PassSeen) (book_seen : B → BookSeen
         home = o.lock.home (omega (arith, o.lock.bit, none-lent));
         tallied = record {
           follows = o.counts.follows;
+          after = each_at (λ old. Follows old o.book) s.views id v me o.counts.after;
           given = among_more o.book made.book (gave_by s.views) v.gave (gave_alone o.book made o.book s.words s.views a o.counts id v me all-parts) o.counts.given;
           ends = o.counts.ends ∙ ap (λ (n : ℕ). (made.book.ends + n) % 2 ^ 64) (zero_else (λ u. length u.wrote) s.views id v me (λ j u ne at-j. ap length (gone j u ne at-j).0));
           clears = o.counts.clears ∙ ap (λ (n : ℕ). (made.book.clears + n) % 2 ^ 64) (zero_else (λ u. length u.cleared) s.views id v me (λ j u ne at-j. ap length (gone j u ne at-j).1));
@@ -156,6 +158,7 @@ module _ {P B : Type 0} (pass_seen : P → PassSeen) (book_seen : B → BookSeen
             let same-seen : pass_seen q.0 ≡ seen = map_at pass_seen room b q.0 seen q.1 at-b in
             ap (λ (z : PassSeen). z.told) (sym same-seen) ∙ t.untouched b q.0 (omega arith) q.2 (omega (arith, none-met));
         follows = tallied.follows;
+        after = each_append (λ old. Follows old (book_seen x)) v.gave [] tallied.after tt;
         given = among_more (book_seen x) made.book v.gave (gave_by (v ∷ [])) (among_left (book_seen x) v.gave []) tallied.given;
         ends = tallied.ends ∙ ap (λ (m : ℕ). (made.book.ends + m) % 2 ^ 64) (omega arith);
         clears = tallied.clears ∙ ap (λ (m : ℕ). (made.book.clears + m) % 2 ^ 64) (omega arith);
@@ -186,12 +189,15 @@ all_back seats (s ∷ front) back is h = absurd (omega arith)
 pub gathered_more : (views : List View) (all other : View) → Gathered views all → Gathered (other ∷ views) (joined all other)
 gathered_more views all other g = record {
   sums = λ f adds. omega (arith, adds all other, g.sums f adds);
-  gave = λ book h. ⊎_elim (λ (l : Among book other.gave). among_left book other.gave (gave_by views) l) (λ (r : Among book all.gave). among_right book other.gave (gave_by views) (g.gave book r)) (among_either book other.gave all.gave h);
+  gave = λ book. (
+    (λ h. ⊎_elim (λ (l : Among book other.gave). among_left book other.gave (gave_by views) l) (λ (r : Among book all.gave). among_right book other.gave (gave_by views) ((g.gave book).0 r)) (among_either book other.gave all.gave h)),
+    λ h. ⊎_elim (λ (l : Among book other.gave). among_left book other.gave all.gave l) (λ (r : Among book (gave_by views)). among_right book other.gave all.gave ((g.gave book).1 r)) (among_either book other.gave (gave_by views) h),
+  );
   shut = (cond_right all.shut other.shut, each_map (λ (v : View). v.shut ≡ true → all.shut ≡ true) (λ (v : View). v.shut ≡ true → cond all.shut true other.shut ≡ true) views (λ v h q. cond_left all.shut other.shut (h q)) g.shut);
 }
 
 pub gathered_one : (v : View) → Gathered (v ∷ []) v
-gathered_one v = record { sums = λ f adds. omega arith; shut = ((λ h. h), tt); gave = λ book h. among_left book v.gave [] h }
+gathered_one v = record { sums = λ f adds. omega arith; shut = ((λ h. h), tt); gave = λ book. ((λ h. among_left book v.gave [] h), λ h. ⊎_elim (λ (l : Among book v.gave). l) (λ (none-left : Among book []). absurd none-left) (among_either book v.gave [] h)) }
 
 each_shut : (views : List View) (all : View) (P : Type 0) → Each (λ (v : View). v.shut ≡ true → all.shut ≡ true) views → (all.shut ≡ true → P) → Each (λ (v : View). v.shut ≡ true → P) views
 each_shut [] all P h k = tt
@@ -203,8 +209,9 @@ returned_all made views all passes book g r = record {
   each = r.each;
   untouched = λ b pass at-b none-met. r.untouched b pass at-b (omega (arith, none-met, g.sums (other_at b) (λ v w. total-append (answered b) w.mine v.mine ∙ omega arith)));
   follows = r.follows;
+  after = let P : BookSeen → Type 0 = λ old. Follows old book in each_of P (gave_by views) (λ old h. each_among P old all.gave (each_front P all.gave [] r.after) ((g.gave old).1 h));
   given = among_more book made.book (gave_by (all ∷ [])) (gave_by views)
-      (λ h. ⊎_elim (λ (l : Among book all.gave). g.gave book l) (λ (none-left : Among book []). absurd none-left) (among_either book all.gave [] h)) r.given;
+      (λ h. ⊎_elim (λ (l : Among book all.gave). (g.gave book).0 l) (λ (none-left : Among book []). absurd none-left) (among_either book all.gave [] h)) r.given;
   ends = r.ends ∙ ap (λ (m : ℕ). (made.book.ends + m) % 2 ^ 64) (omega (arith, g.sums (λ u. length u.wrote) (λ v w. length-append w.wrote v.wrote ∙ omega arith)));
   clears = r.clears ∙ ap (λ (m : ℕ). (made.book.clears + m) % 2 ^ 64) (omega (arith, g.sums (λ u. length u.cleared) (λ v w. length-append w.cleared v.cleared ∙ omega arith)));
   spoilt = omega (arith, r.spoilt, g.sums (λ u. length u.spoilt) (λ v w. length-append w.spoilt v.spoilt ∙ omega arith));

@@ -11,7 +11,7 @@ use Rattle.atomic_table.specs.Table.{step, Act, keeps, takes, gives, rest, Valid
 use Rattle.atomic_table.proofs.Lists.{at_set, set_here, set_else}
 use Rattle.vd_arm.specs.Arm.{PassSeen}
 use Rattle.key_state.specs.Entries.{IsPending, AreEntries}
-use Rattle.key_state.specs.Books.{Follows, follows_then}
+use Rattle.key_state.specs.Books.{Follows, follows_same, follows_then}
 use Rattle.key_state.specs.declared.entry.Entry.{Entry}
 use Rattle.key_state.specs.declared.entry.Entry.TheVariants.{Settled, Pending, Bad}
 use Rattle.key_state.specs.declared.seen.BookSeen.{BookSeen}
@@ -33,7 +33,7 @@ use Rattle.claim_table.proofs.Sums.{total-set, term_le, terms_le}
 use Rattle.claim_table.proofs.Basics.{each_map, each_in, some_same, falls_brought}
 use Rattle.claim_table.proofs.WordParts.{agrees_kept, rested}
 use Rattle.claim_table.proofs.Steps.{K, reloaded}
-use Rattle.claim_table.proofs.GaveBack.{among_more, gave_new, gave_alone}
+use Rattle.claim_table.proofs.GaveBack.{among_more, each_at, each_set, gave_new, gave_alone}
 use Rattle.claim_table.proofs.BadCount.{bad_after, bad_place}
 use Rattle.claim_table.proofs.SlotParts.{counts_kept, pass_else, parked_else, kept_none, kept_book, slots_set, lock_kept}
 
@@ -140,6 +140,7 @@ module _ {P B : Type 0} (pass_seen : P → PassSeen) (book_seen : B → BookSeen
         safe = each_map (Agrees o.book s.words) (λ i. i.safe ≡ true → IsPending i.own × (synced_at o.book i.block ≡ i.own)) v.held (λ i q. q.safe) was.held;
         sized = a.sized ∙ sym same-n;
         follows = subst F (sym known) o.counts.follows;
+        after = each_at (λ old. Follows old o.book) s.views id v me o.counts.after;
         shut = o.counts.told_shut id v me;
         bad = λ b some-bad. o.counts.bad_met b (omega (arith, term_le (bad_at b) s.views id v me));
         alone = λ all. subst (λ (z : Made). Among o.book (z.book ∷ v.gave)) (sym known)
@@ -336,6 +337,9 @@ module _ {P B : Type 0} (pass_seen : P → PassSeen) (book_seen : B → BookSeen
             );
             bad_met = λ b some-bad. may'.stays b (o.counts.bad_met b (omega (arith, total-set (bad_at b) s.views id v w me)));
             follows = follows_then made.book o.book f o.counts.follows may'.follows;
+            after = let P : BookSeen → Type 0 = λ old. Follows old f in
+                let all-gave : Each P (gave_by s.views) = each_map (λ old. Follows old o.book) P (gave_by s.views) (λ old q. follows_then old o.book f q may'.follows) o.counts.after in
+                each_set P s.views id w (follows_same f, each_at P s.views id v me all-gave) all-gave;
             given = inr (gave_new f s.views id v w me (inl refl));
             idle = λ j u at-j q. ⊎_elim (λ (t : (j ≡ id) × (w ≡ u)). absurd (false≢true (sym live ∙ (ap (λ (z : View). z.spent) t.1 ∙ q)))) (λ t. o.counts.idle j u t.1 q) (at_set s.views id j w u at-j);
             told_shut = λ j u at-j q. ⊎_elim (λ t. shut_cases v.shut f.shut (f.shut ≡ true) (λ z. may'.follows.shut (o.counts.told_shut id v me z)) (λ z. z) (ap (λ (z : View). z.shut) t.1 ∙ q))

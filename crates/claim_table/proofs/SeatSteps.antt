@@ -6,6 +6,7 @@ use lib.ListN.{get_elem?}
 use Rattle.atomic_table.specs.Table.{Splits, Joins}
 use Rattle.atomic_table.proofs.Lists.{at_set, set_else, at_snoc}
 use Rattle.vd_arm.specs.Arm.{PassSeen}
+use Rattle.key_state.specs.Books.{Follows}
 use Rattle.key_state.specs.declared.seen.BookSeen.{BookSeen}
 use Rattle.claim_table.specs.Codes.{code_of}
 use Rattle.claim_table.specs.Sums.{total, Each}
@@ -15,7 +16,7 @@ use Rattle.claim_table.specs.declared.view.View.{View}
 use Rattle.claim_table.specs.declared.view.Made.{Made}
 use Rattle.claim_table.proofs.Sums.{total-append, total-set}
 use Rattle.claim_table.proofs.Basics.{each_map, length-snoc, two_long, there_long}
-use Rattle.claim_table.proofs.GaveBack.{among_left, among_right, among_more, gave_set, gave_snoc, gave_joined}
+use Rattle.claim_table.proofs.GaveBack.{among_left, among_right, among_more, each_append, each_at, each_set, each_snoc, gave_set, gave_snoc, gave_joined}
 use Rattle.claim_table.proofs.Steps.{K}
 
 shut_cases : (a b : Bool) (P : Type 0) → (a ≡ true → P) → (b ≡ true → P) → cond a true b ≡ true → P
@@ -56,6 +57,7 @@ module _ {P B : Type 0} (pass_seen : P → PassSeen) (book_seen : B → BookSeen
           spoilt = omega (arith, o.counts.spoilt, both (λ u. length u.spoilt));
           bad_met = λ b h. o.counts.bad_met b (omega (arith, both (bad_at b)));
           follows = o.counts.follows;
+          after = let P : BookSeen → Type 0 = λ old. Follows old o.book in each_snoc P vs r tt (each_set P s.views id l (each_at P s.views id v me o.counts.after) o.counts.after);
           given = among_more o.book made.book (gave_by s.views) (gave_by (vs ++ r ∷ [])) (λ h. gave_snoc o.book vs r (gave_set o.book s.views id v l me (λ q. q) h)) o.counts.given;
           idle = λ j u e q. ⊎_elim (λ (z : get_elem? vs j ≡ some u). ⊎_elim (λ (t : (j ≡ id) × (l ≡ u)). absurd (false≢true (sym live ∙ (ap (λ (c : View). c.spent) t.1 ∙ q)))) (λ t. o.counts.idle j u t.1 q) (at_set s.views id j l u z))
               (λ (z : r ≡ u). absurd (false≢true (ap (λ (c : View). c.spent) z ∙ q))) (at_snoc vs r u j e);
@@ -123,6 +125,9 @@ module _ {P B : Type 0} (pass_seen : P → PassSeen) (book_seen : B → BookSeen
           spoilt = omega (arith, o.counts.spoilt, both (λ x. length x.spoilt), length-append u.spoilt v.spoilt);
           bad_met = λ b h. o.counts.bad_met b (omega (arith, both (bad_at b), total-append (found_bad b) u.mine v.mine));
           follows = o.counts.follows;
+          after = let P : BookSeen → Type 0 = λ old. Follows old o.book in
+              let both-gave : Each P w.gave = each_append P u.gave v.gave (each_at P s.views other u there o.counts.after) (each_at P s.views id v me o.counts.after) in
+              each_set P vs other done tt (each_set P s.views id w both-gave o.counts.after);
           given = among_more o.book made.book (gave_by s.views) (gave_by (set vs other done)) (gave_joined o.book s.views id other v u w done ne me there (among_right o.book u.gave v.gave) (among_left o.book u.gave v.gave)) o.counts.given;
           idle = cases (λ x. x.spent ≡ true → (x.wrote ≡ []) × (x.cleared ≡ []) × (x.spoilt ≡ []) × (x.gave ≡ [])) (λ _. (refl, refl, refl, refl)) (λ q. absurd (false≢true (sym live ∙ q))) o.counts.idle;
           told_shut = cases (λ x. x.shut ≡ true → o.book.shut ≡ true) (λ q. absurd (false≢true q)) (λ q. shut_cases v.shut u.shut (o.book.shut ≡ true) (o.counts.told_shut id v me) (o.counts.told_shut other u there) q) o.counts.told_shut;

@@ -5,6 +5,7 @@ use mathlib.Core.Option.{some, none, some-injective, some-ne-none}
 use lib.ListN.{get_elem?}
 use Rattle.atomic_table.proofs.Lists.{at_set, set_else}
 use Rattle.vd_arm.specs.Arm.{PassSeen}
+use Rattle.key_state.specs.Books.{Follows}
 use Rattle.key_state.specs.declared.entry.Entry.TheVariants.{Bad}
 use Rattle.key_state.specs.declared.seen.BookSeen.{BookSeen}
 use Rattle.claim_table.specs.Lanes.{code_at}
@@ -19,7 +20,7 @@ use Rattle.claim_table.specs.declared.slot.Slot.{Slot}
 use Rattle.claim_table.specs.declared.slot.Slot.TheVariants as slot
 use Rattle.claim_table.proofs.Sums.{total-set, term_le}
 use Rattle.claim_table.proofs.Basics.{each_apart}
-use Rattle.claim_table.proofs.GaveBack.{among_more, gave_set}
+use Rattle.claim_table.proofs.GaveBack.{among_more, each_at, each_set, gave_set}
 
 pub counts_kept : (made : Made) (book : BookSeen) (views : List View) (o : Counts made book views) (id : ℕ) (v w : View) → get_elem? views id ≡ some v → w.wrote ≡ v.wrote → w.cleared ≡ v.cleared → w.spoilt ≡ v.spoilt → w.gave ≡ v.gave → w.shut ≡ v.shut → w.spent ≡ v.spent → ((b : ℕ) → (bad_at b w ≡ bad_at b v) ⊎ (now_at book b ≡ Bad)) → Counts made book (set views id w)
 counts_kept made book views o id v w me wrote cleared spoilt gave shut spent bads = record {
@@ -28,6 +29,7 @@ counts_kept made book views o id v w me wrote cleared spoilt gave shut spent bad
   spoilt = omega (arith, o.spoilt, total-set (λ u. length u.spoilt) views id v w me, ap length spoilt);
   bad_met = λ b some-bad. ⊎_elim (λ (e : bad_at b w ≡ bad_at b v). o.bad_met b (omega (arith, total-set (bad_at b) views id v w me))) (λ (e : now_at book b ≡ Bad). e) (bads b);
   follows = o.follows;
+  after = let P : BookSeen → Type 0 = λ old. Follows old book in each_set P views id w (subst (Each P) (sym gave) (each_at P views id v me o.after)) o.after;
   given = among_more book made.book (gave_by views) (gave_by (set views id w)) (gave_set book views id v w me (subst (Among book) (sym gave))) o.given;
   idle = λ j u at-j asleep. ⊎_elim
       (λ (t : (j ≡ id) × (w ≡ u)). let was = o.idle id v me (sym spent ∙ (ap (λ (x : View). x.spent) t.1 ∙ asleep)) in

@@ -9,13 +9,14 @@ use Rattle.claim_table.specs.Views.{at, bad_at, blocks_of, parts_in, now_at, syn
 use Rattle.claim_table.specs.declared.view.Item.{Item}
 use Rattle.claim_table.specs.declared.view.View.{View}
 
--- What a seat with this view knows of the book that it gets. One with all parts gets the book that the table was made with, or one that
--- it, or a seat joined to it, gave back.
+-- What a seat with this view knows of the book that it gets, which follows each that it, or a seat joined to it, gave back. One with all
+-- parts gets the book that the table was made with, or one of those.
 pub record Lends (view : View) (book : BookSeen) : Type 0 where
   pub owned : Each (λ i. now_at book i.block ≡ i.own) view.held
   pub safe : Each (λ i. i.safe ≡ true → IsPending i.own × (synced_at book i.block ≡ i.own)) view.held
   pub sized : length book.now ≡ blocks_of view.made
   pub follows : Follows view.made.book book
+  pub after : Each (λ old. Follows old book) view.gave
   pub shut : view.shut ≡ true → book.shut ≡ true
   pub bad : (block : ℕ) → 0 < bad_at block view → now_at book block ≡ Bad
   pub alone : view.parts ≡ parts_in view.made → Among book (view.made.book ∷ view.gave)

@@ -1,5 +1,5 @@
 -- What a table gives back when it is closed.
-use Rattle.std.specs.Prelude.{◌≡◌, ℕ, ◌+◌, ◌%◌, ◌^◌, ◌<◌, true, All, List, [], ◌∷◌, length, map, slice_get, slice_index_or, Some, None}
+use Rattle.std.specs.Prelude.{◌≡◌, ◌↔◌, ℕ, ◌+◌, ◌%◌, ◌^◌, ◌<◌, true, All, List, [], ◌∷◌, length, map, slice_get, slice_index_or, Some, None}
 use mathlib.Core.Option.{some}
 use lib.ListN.{get_elem?}
 use Rattle.vd_base.specs.declared.geometry.StoreId.{StoreId}
@@ -26,13 +26,14 @@ abbrev pub HasAll : View → Made → Type 0
 HasAll view made = (view.parts ≡ parts_in made) × (0 < view.parts)
 
 -- The passes of all blocks in order, and the book, as seats with these views get them back. The book is the one that was handed in, or
--- one that a seat gave back. Each word in which a block was found busy has the entry with which a claim of that block was answered. A block
+-- one that a seat gave back, and it follows each of these. Each word in which a block was found busy has the entry with which a claim of that block was answered. A block
 -- that no seat ever had or met as bad has a pass that tells what it told as the table was made.
 pub record Returned (made : Made) (views : List View) (passes : List PassSeen) (book : BookSeen) : Type 0 where
   pub many : length passes ≡ blocks_of made
   pub each : (block : ℕ) (pass : PassSeen) → slice_get passes block ≡ Some pass → IsPassFor made block (now_at book block) pass
   pub untouched : (block : ℕ) (pass : PassSeen) → slice_get passes block ≡ Some pass → total (other_at block) views ≡ 0 → pass.told ≡ slice_index_or made.told block None
   pub follows : Follows made.book book
+  pub after : Each (λ old. Follows old book) (gave_by views)
   pub given : Among book (made.book ∷ gave_by views)
   pub ends : book.ends ≡ (made.book.ends + total (λ view. length view.wrote) views) % 2 ^ 64
   pub clears : book.clears ≡ (made.book.clears + total (λ view. length view.cleared) views) % 2 ^ 64
@@ -50,7 +51,7 @@ AddsUp f = (view other : View) → f (joined view other) ≡ f view + f other
 pub record Gathered (views : List View) (all : View) : Type 0 where
   pub sums : (f : View → ℕ) → AddsUp f → f all ≡ total f views
   pub shut : Each (λ view. view.shut ≡ true → all.shut ≡ true) views
-  pub gave : (book : BookSeen) → Among book all.gave → Among book (gave_by views)
+  pub gave : (book : BookSeen) → Among book all.gave ↔ Among book (gave_by views)
 
 -- No seat made a claim, and no seat gave a book back.
 abbrev pub MadeNoClaim : List View → Type 0

@@ -60,13 +60,14 @@ pub record Claims (made : Made) (book : BookSeen) (words : List ℕ) (views : Li
   pub stays : (b : ℕ) → b < blocks_of made → 0 < total (bad_at b) views → code_at words b % 2 ^ 15 ≡ code_of Bad
 
 -- The tallies: each write that was ended, each block that was cleared and each that was made bad stands in one view. The book is the one
--- that the table was made with, or stands in a view as one that was given back.
+-- that the table was made with, or stands in a view as one that was given back, and it follows each of these.
 pub record Counts (made : Made) (book : BookSeen) (views : List View) : Type 0 where
   pub ends : book.ends ≡ (made.book.ends + total (λ view. length view.wrote) views) % 2 ^ 64
   pub clears : book.clears ≡ (made.book.clears + total (λ view. length view.cleared) views) % 2 ^ 64
   pub spoilt : total bad book.now ≡ total bad made.book.now + total (λ view. length view.spoilt) views
   pub bad_met : (b : ℕ) → 0 < total (bad_at b) views → now_at book b ≡ Bad
   pub follows : Follows made.book book
+  pub after : Each (λ old. Follows old book) (gave_by views)
   pub given : Among book (made.book ∷ gave_by views)
   pub idle : (j : ℕ) (view : View) → get_elem? views j ≡ some view → view.spent ≡ true → (view.wrote ≡ []) × (view.cleared ≡ []) × (view.spoilt ≡ []) × (view.gave ≡ [])
   pub told_shut : (j : ℕ) (view : View) → get_elem? views j ≡ some view → view.shut ≡ true → book.shut ≡ true

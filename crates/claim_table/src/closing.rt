@@ -45,7 +45,8 @@ fn take_passes<P, B>(
 impl<P: Pass, B: Book> ClaimTable<P, B> {
     /// Gives back the passes in block order, and the book. It takes all seats of the table, each of which holds no block and doesn't have
     /// the book. The book's Ends and Clears, and how many of its blocks are bad, are those that it was made with and what the seats'
-    /// lists add. It takes no memory: the passes go back into the list in which they came.
+    /// lists add. It follows each book that a seat gave back: where one of those is stopped or shut, it is too. It takes no memory: the
+    /// passes go back into the list in which they came.
     pub fn close(self, seats: Vec<ClaimSeat>) -> (Vec<P>, B)
         requires idle { All (IsIdle self) seats.items }
         requires all { total parts (map view_of seats.items) ≡ parts_in (made_in P.seen B.seen self) }
