@@ -1,13 +1,16 @@
 -- What is seen of a book before and after a call.
-use Rattle.std.proofs.Common.{◌≡◌, ◌⊎◌, ℕ, ◌+◌, ◌*◌, ◌%◌, ◌^◌, ◌<◌, ◌≤◌, Bool, true, false, List, Option, Some, None, Ok, Err, refl, sym, ap, ◌∙◌, subst, arith}
+use Rattle.std.proofs.Common.{◌≡◌, ◌⊎◌, ℕ, ◌+◌, ◌*◌, ◌%◌, ◌^◌, ◌<◌, ◌≤◌, Bool, true, false, List, Option, Some, None, Result, Ok, Err, refl, sym, ap, ◌∙◌, subst, arith}
 use Rattle.std.specs.Prelude.{◌&&◌, ◌||◌, ◌==◌, nat_le, if◌then◌else◌, IsSome}
 use Rattle.std.proofs.lemmas.Bool.Decides.{nat_tests}
 use Rattle.vd_outside.specs.Causes.{Rose}
 use Rattle.key_state.specs.declared.entry.Entry.{Entry}
 use Rattle.key_state.specs.declared.record.Record.{Record}
-use Rattle.key_state.specs.declared.fault.BookFault.TheVariants.{Failed}
+use Rattle.key_state.specs.declared.fault.BookFault.TheVariants.{Failed, Stopped, EpochEnd}
+use Rattle.key_state.specs.declared.fault.BookFault.{BookFault}
+use Rattle.key_state.specs.declared.seen.BookSeen.{BookSeen}
+use Rattle.std.specs.Result.{is_err}
 use Rattle.key_state.specs.Entries.{ends_of}
-use Rattle.key_state.specs.Books.{Steps, clears_of, Appended, HasBookCause}
+use Rattle.key_state.specs.Books.{Steps, clears_of, Appended, HasBookCause, HasFlushCause}
 use Rattle.vd_disk.specs.Disk.{DiskSeen}
 use Rattle.journal_layout.specs.declared.live.Live.{Live}
 use Rattle.journal_core.specs.Keeps.{Memory, new_memory}
@@ -50,6 +53,13 @@ some_at b is = ap (λ t. if t then Some b.records else None) is
 
 pub none_some : (n : ℕ) (o : Option ℕ) → o ≡ None → o ≡ Some n → ⊥
 none_some n o a b = cc
+
+-- A flush that answers Err failed now, unless the book was stopped before.
+pub failed_now : (old new : BookSeen) (result : Result (Unit {0}) BookFault) → is_err result ≡ true → HasFlushCause old new result → old.stopped ≡ None → Rose old.faults new.faults
+failed_now old new (Ok v) bad cause none = absurd (false_true bad refl)
+failed_now old new (Err Failed) bad cause none = cause.1
+failed_now old new (Err (Stopped records)) bad cause none = absurd (none_some records old.stopped none cause.0)
+failed_now old new (Err (EpochEnd epoch)) bad cause none = absurd cause
 
 module _ (began opened old new : DiskSeen) (b c : Memory) (made : Record) where
   pub appended_seen : b.stopped ≡ false → (b.stopped || is_over b) ≡ false → origin_of began opened c ≡ origin_of began opened b → b.live.epoch ≤ c.live.epoch → old.faults ≤ new.faults

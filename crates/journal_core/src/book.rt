@@ -1,5 +1,5 @@
 // The journal of a store as a book.
-ghost use Rattle.std.specs.Prelude.{◌≡◌, ◌<◌, ◌≤◌, ◌+◌, ◌-◌, ◌*◌, ◌%◌, ◌^◌, ◌⊎◌, ⊤, if◌then◌else◌, [], length, replicate, true, false, IfErr, IfOk, OnErr, OnOk};
+ghost use Rattle.std.specs.Prelude.{◌≡◌, ◌<◌, ◌≤◌, ◌+◌, ◌-◌, ◌*◌, ◌%◌, ◌^◌, ◌⊎◌, ⊤, if◌then◌else◌, [], length, replicate, true, false, IfErr, IfOk, OnErr, OnOk, None};
 ghost use Rattle.std.proofs.Props.{props};
 ghost use Rattle.vd_outside.specs.Causes.{HasCause, Rose};
 ghost use Rattle.vd_disk.specs.Disk.{Extends, WhenTold};
@@ -266,11 +266,20 @@ impl<D: Disk> JournalBook<D> {
         ensures all { IfOk result (λ disk. (so_far : Story) → HasStory (disk_of self) (memory_of self) so_far → KeepsAll (closed (seen_of self) (D.seen disk)) so_far (memory_of self).records (D.seen disk)) }
         ensures over { IfErr result (λ disk. (so_far : Story) → HasStory (disk_of self) (memory_of self) so_far
             → KeepsOver (given_up (memory_of self).records (seen_of self) (D.seen disk)) so_far (memory_of self).records (memory_of self).synced (D.seen disk)) }
+        // Where no call had failed before, one failed in this call.
+        ensures now { IfErr result (λ disk. (seen_of self).stopped ≡ None → Rose (disk_of self).faults (D.seen disk).faults) }
     {
         if self.keep_all().is_err() {
             return Err(self.disk);
         }
         Ok(self.disk)
+    }
+
+    /// How many records the epoch has.
+    pub fn records(&self) -> u64
+        ensures { result ≡ (memory_of self.now).records }
+    {
+        self.records
     }
 
     /// How many records the epoch had when a call failed, where one did.

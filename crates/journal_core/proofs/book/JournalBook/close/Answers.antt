@@ -7,6 +7,7 @@ use Rattle.journal_core.specs.Book.{memory_of, seen_of}
 use Rattle.journal_core.specs.Calls.{all_synced, IsStopped}
 use Rattle.journal_core.specs.Keeps.{Memory}
 use Rattle.journal_core.proofs.Appends.{ok_of, ok_unit}
+use Rattle.journal_core.proofs.Seeing.{failed_now}
 use Rattle.journal_core.proofs.Kept.{err_of, is_closed, is_given_up}
 use Rattle.journal_core.proofs.History.{closed_all, left_over}
 use Rattle.journal_core.proofs.book.JournalBook.close.Goals as goal
@@ -22,6 +23,11 @@ returns-then-is_err-clause-given_up g c =
     let same = c.keep_all.ensures.same.0 in
     is_given_up (g.D.Disk.seen c.args.self.began.value) (g.D.Disk.seen c.args.self.disk) new b m c.keep_all.ensures.story is
     (subst (λ (d : DiskSeen). Rose d.faults new.faults) same rose) c.keep_all.ensures.goes_on
+
+pub returns-then-is_err-clause-now : goal.returns-then-is_err-clause-now
+returns-then-is_err-clause-now g c none =
+    let bad = sym c.is_err.ensures.value ∙ c.if-is_err.true in
+    failed_now (seen_of {D = g.row.D.Denot} {G = g.D.Disk} c.args.self) (seen_of {D = g.row.D.Denot} {G = g.D.Disk} c.keep_all.new.self) c.keep_all.result bad c.keep_all.ensures.cause none
 
 pub returns-clause-closed : goal.returns-clause-closed
 returns-clause-closed g c =

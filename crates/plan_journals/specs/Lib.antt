@@ -1,0 +1,5 @@
+pub mod Open
+pub mod Growth
+pub mod Opening
+pub mod Closing
+pub mod Laws
