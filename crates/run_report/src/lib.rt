@@ -25,6 +25,7 @@ pub use plan::{parameter_column_line, parameter_line, run_line, share_line, stor
 pub use plan_print::say_plan;
 pub use printer::Printer;
 pub use run_print::say_run_text;
+pub use run_sums::{Group, Totals};
 pub use simulation::{Simulated, simulation_line};
 pub use status::{Status, last_lines};
 pub use words::{cannot_open_line, cannot_read_line, usage_line};

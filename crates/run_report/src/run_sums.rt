@@ -9,7 +9,7 @@ use worker_tally::{IntervalRow, Numbers, Tally};
 
 /// Some of a run's workers.
 #[derive(Clone, Copy, Drop)]
-pub(crate) enum Group {
+pub enum Group {
     /// Those of the slave with this number.
     Slave(u32),
     /// Those of the store at this place of the plan's stores.
@@ -28,7 +28,7 @@ pub(crate) struct RowSums {
 
 /// The numbers of some workers, added up.
 #[derive(Clone, Copy, Drop)]
-pub(crate) struct Totals {
+pub struct Totals {
     /// How many workers there are.
     pub workers: u64,
     pub turns: u128,

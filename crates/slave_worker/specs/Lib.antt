@@ -4,3 +4,4 @@ pub mod Standings
 pub mod Ends
 pub mod Sentences
 pub mod Works
+pub mod Hands

@@ -10,6 +10,7 @@
 
 mod device;
 mod did;
+mod hand;
 mod law;
 mod marking;
 mod turning;
@@ -18,5 +19,6 @@ mod working;
 mod writing;
 
 pub use did::{Did, Rules, WorkEnd};
+pub use hand::{RunAnswer, RunFault, StoreHand};
 pub use law::turns_add_up;
 pub use working::{one_turn, work};

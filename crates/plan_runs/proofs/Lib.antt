@@ -1,0 +1,13 @@
+pub mod Found
+pub mod Spoken
+pub mod Chosen
+pub mod Opened
+pub mod Parted
+pub mod Returned
+pub mod Ended
+pub mod Faults
+pub mod Made
+pub mod Devices
+pub mod Runs
+pub mod Quieted
+pub mod Going

@@ -1,0 +1,9 @@
+pub mod Lists
+pub mod Rising
+pub mod Counts
+pub mod Stores
+pub mod Crews
+pub mod Works
+pub mod Totals
+pub mod Paths
+pub mod Wholes

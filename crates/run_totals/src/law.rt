@@ -1,0 +1,25 @@
+// What a run's totals add up to.
+ghost use Rattle.run_totals.specs.Sentences.{CorruptAreBad, EndsHaveCauses, ErrorsAreFindings, FaultsAreArmFaults, FittingStaysSo, OneForEach, OtherPathsStay, PassesComeBack, ReadsAreGoodReads, SourcesStay, StillClocksDontEnd, WritesAreEnds, WritesAreGoodWrites};
+
+use key_state::Book;
+use slave_worker::turns_add_up;
+use vd_arm::Pass;
+
+/// What the totals of every run have to do with its stores' books, with the counts of their paths, and with its errors.
+pub fn run_adds_up<P: Pass, B: Book>()
+    ensures writes { WritesAreEnds P.seen B.seen }
+    ensures reads { ReadsAreGoodReads P.seen B.seen }
+    ensures faults { FaultsAreArmFaults P.seen B.seen }
+    ensures good_writes { WritesAreGoodWrites P.seen B.seen }
+    ensures corrupt { CorruptAreBad P.seen B.seen }
+    ensures fits { FittingStaysSo P.seen B.seen }
+    ensures passes { PassesComeBack P.seen B.seen }
+    ensures others { OtherPathsStay P.seen B.seen }
+    ensures sources { SourcesStay P.seen B.seen }
+    ensures errors { ErrorsAreFindings P.seen B.seen }
+    ensures one_each { OneForEach P.seen B.seen }
+    ensures ends { EndsHaveCauses P.seen B.seen }
+    ensures still { StillClocksDontEnd P.seen B.seen }
+{
+    turns_add_up();
+}
