@@ -11,6 +11,8 @@ mod plans;
 #[cfg(test)]
 mod refusals;
 #[cfg(test)]
+mod runs;
+#[cfg(test)]
 mod setting;
 #[cfg(test)]
 mod stores;

@@ -2,6 +2,8 @@
 use crate::setting::{RECOVER, expect, yard_of};
 use std::alloc::Global;
 use std::process::Abort;
+use std::sync::Wait;
+use std::thread::Threads;
 
 /// Faults of lines.
 const LINES: [(&[u8], &str); 10] = [
@@ -154,7 +156,7 @@ const PLANS: [(&[u8], &str); 20] = [
 ];
 
 /// A file is refused with this line, whether its plan is asked for or its stores.
-fn refused(rt: &impl Abort, alloc: Global, file: &[u8], line: &str) {
+fn refused(rt: &(impl Abort + Threads + Wait + Sync), alloc: Global, file: &[u8], line: &str) {
     let mut yard = yard_of(rt, alloc, file);
     let wanted = format!(in alloc; "{line}\nstatus 3\n").expect(rt, "memory");
     for command in ["-s -f p", RECOVER] {

@@ -2,11 +2,13 @@
 use crate::image::image;
 use std::alloc::Global;
 use std::process::Abort;
+use std::sync::Wait;
+use std::thread::Threads;
 use vd_base::Sector;
 use vd_disk::MemDisk;
-use vd_outside::{MemSink, Text};
+use vd_outside::{MemClock, MemSink, OpenGate, Text, Turnstile};
 use vd_yard::MemYard;
-use vdbench_top::vdbench_still;
+use vdbench_top::vdbench;
 
 /// A parameter file of the store sd1: 16 blocks of 4,096 bytes.
 pub const PARAMETERS: &str = "sd=sd1,lun=/d/a,size=64k\nwd=wd1,sd=sd1,xfersize=4k\nrd=rd1,wd=wd1\n";
@@ -101,9 +103,36 @@ pub fn yard(rt: &impl Abort, alloc: Global, sectors: Vec<Sector>, data: Vec<u8>)
     yard
 }
 
-/// Runs a command, and fails where it doesn't print just this text or end with this status.
+/// Runs a command at a gate, and fails where it doesn't print just this text or end with this status.
+pub fn expect_at<T: Turnstile>(
+    rt: &(impl Abort + Threads + Wait + Sync),
+    alloc: Global,
+    row: &str,
+    line: &str,
+    yard: &mut MemYard,
+    gate: &T,
+    wanted: &str,
+    number: u8,
+) {
+    let words = words_of(rt, alloc, line);
+    let mut out = MemSink::new(alloc, Vec::new(alloc));
+    let mut clock = MemClock::new(0, 0);
+    let status = vdbench(
+        rt,
+        alloc,
+        words.as_slice(),
+        yard,
+        &mut out,
+        &mut clock,
+        gate,
+    );
+    assert!(rt; out.bytes() == wanted.as_bytes(), "{row}: another text");
+    assert_eq!(rt; status.number(), number, "{row}");
+}
+
+/// The same at a gate at which nobody waits.
 pub fn expect(
-    rt: &impl Abort,
+    rt: &(impl Abort + Threads + Wait + Sync),
     alloc: Global,
     row: &str,
     line: &str,
@@ -111,16 +140,12 @@ pub fn expect(
     wanted: &str,
     number: u8,
 ) {
-    let words = words_of(rt, alloc, line);
-    let mut out = MemSink::new(alloc, Vec::new(alloc));
-    let status = vdbench_still(alloc, words.as_slice(), yard, &mut out);
-    assert!(rt; out.bytes() == wanted.as_bytes(), "{row}: another text");
-    assert_eq!(rt; status.number(), number, "{row}");
+    expect_at(rt, alloc, row, line, yard, &OpenGate, wanted, number);
 }
 
 /// Runs a command whose output fails at this write, from 0: it must end with status 6, and what went out is this text.
 pub fn expect_failing(
-    rt: &impl Abort,
+    rt: &(impl Abort + Threads + Wait + Sync),
     alloc: Global,
     line: &str,
     yard: &mut MemYard,
@@ -130,7 +155,16 @@ pub fn expect_failing(
     let words = words_of(rt, alloc, line);
     let failing = Vec::from_slice(alloc, &[write]).expect(rt, "memory");
     let mut out = MemSink::new(alloc, failing);
-    let status = vdbench_still(alloc, words.as_slice(), yard, &mut out);
+    let mut clock = MemClock::new(0, 0);
+    let status = vdbench(
+        rt,
+        alloc,
+        words.as_slice(),
+        yard,
+        &mut out,
+        &mut clock,
+        &OpenGate,
+    );
     assert!(rt;
         out.bytes() == wanted.as_bytes(),
         "write {write}: another text"

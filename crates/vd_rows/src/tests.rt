@@ -7,6 +7,8 @@ use crate::setting::{
 };
 use std::alloc::Global;
 use std::process::Abort;
+use std::sync::Wait;
+use std::thread::Threads;
 use vd_base::Sector;
 use vd_disk::MemDisk;
 
@@ -20,7 +22,7 @@ struct Row<'a> {
     status: u8,
 }
 
-fn check(rt: &impl Abort, alloc: Global, row: &Row) {
+fn check(rt: &(impl Abort + Threads + Wait + Sync), alloc: Global, row: &Row) {
     let mut sectors = created(rt, alloc, STORE);
     for bytes in row.parts {
         put(rt, &mut sectors, bytes);
@@ -372,7 +374,13 @@ fn one(rt: &impl Abort, alloc: Global, number: u64) -> Vec<u64> {
 }
 
 /// A created journal, with a refused opening at this path: the one before which so many go on.
-fn refused(rt: &impl Abort, alloc: Global, path: &str, place: u64, wanted: &str) {
+fn refused(
+    rt: &(impl Abort + Threads + Wait + Sync),
+    alloc: Global,
+    path: &str,
+    place: u64,
+    wanted: &str,
+) {
     let mut yard = yard(rt, alloc, created(rt, alloc, STORE), Vec::new(alloc));
     yard.refuse(text(rt, alloc, path), place)
         .expect(rt, "memory");
@@ -432,7 +440,7 @@ fn failed_calls(rt: HostRuntime) {
     unread_block(&rt, alloc);
 }
 
-fn unread_journal(rt: &impl Abort, alloc: Global) {
+fn unread_journal(rt: &(impl Abort + Threads + Wait + Sync), alloc: Global) {
     let mut yard = yard(rt, alloc, Vec::new(alloc), Vec::new(alloc));
     let disk = MemDisk::of(alloc, created(rt, alloc, STORE), one(rt, alloc, 2)).expect(
         rt, "memory",
@@ -451,7 +459,7 @@ fn unread_journal(rt: &impl Abort, alloc: Global) {
 }
 
 /// Block 0 is settled at 3, and its read fails: first alone, then beside a block with a stale sector.
-fn unread_block(rt: &impl Abort, alloc: Global) {
+fn unread_block(rt: &(impl Abort + Threads + Wait + Sync), alloc: Global) {
     let alone =
         "journal sd1 epoch 0 records 0\nreadfault sd1 block 0\nverified sd1 blocks 0 corrupt 0 pending 0 bad 0 faults 1\nstatus 2\n";
     let beside =

@@ -1,12 +1,12 @@
-//! The program: real files, the standard output, and the top call.
+//! The program: real files, the standard output, the system's clock, and the top call.
 #![tactic(auto)]
 
 use run_report::{Printer, Status, last_lines};
 use std::process::ExitCode;
 use std::{env, io};
-use vd_outside::{Sink, StdSink};
+use vd_outside::{OpenGate, Sink, StdSink, SystemClock};
 use vd_yard::HostYard;
-use vdbench_top::vdbench_still;
+use vdbench_top::vdbench;
 
 /// The words after the program's name, or none where memory runs out. A word that isn't UTF-8 is no command's, so there are no words then.
 fn words_of(rt: &HostRuntime) -> Option<Vec<String>> {
@@ -46,6 +46,15 @@ fn main(rt: HostRuntime) -> ExitCode {
         return ExitCode::from(without_memory(&mut out).number());
     };
     let mut yard = HostYard::new(&rt);
-    let status = vdbench_still(rt.alloc(), words.as_slice(), &mut yard, &mut out);
+    let mut clock = SystemClock::new(&rt);
+    let status = vdbench(
+        &rt,
+        rt.alloc(),
+        words.as_slice(),
+        &mut yard,
+        &mut out,
+        &mut clock,
+        &OpenGate,
+    );
     ExitCode::from(status.number())
 }

@@ -3,3 +3,5 @@ pub mod Naming
 pub mod Plans
 pub mod Tellings
 pub mod Schedules
+pub mod Statuses
+pub mod Runs

@@ -11,7 +11,7 @@ use Rattle.command_words.specs.declared.command.Command.{Command}
 use Rattle.command_words.specs.declared.command.Flag.{Flag}
 use Rattle.command_words.specs.declared.command.Mode.{Mode}
 use Rattle.command_words.specs.declared.command.Mode.TheVariants as mode
-use Rattle.vdbench_top.specs.Words.{command_built, is_still, file_by, file_in, file_of, name_at, name_in, steps_by, steps_in, steps_of, still_only}
+use Rattle.vdbench_top.specs.Words.{command_built, built_only, is_built, runs_quietly, file_by, file_in, file_of, name_at, name_in, run_by, run_of, steps_by, steps_in, steps_of}
 
 some_is : {A : Type 0} (x y : A) → Some x ≡ Some y → x ≡ y
 some_is x y e = cc
@@ -40,7 +40,7 @@ either_named None options c e never none = absurd (never e none)
 pub steps_or_file : (words : List (List ℕ)) (c : Command) → command_said words ≡ Some c → c.file ≡ None → (n : ℕ) × (c.mode ≡ mode.Simulate n)
 steps_or_file words c e none = either_named (number_said words) (command_by (flags_of 0 words)) c e (λ f n. file_named (flags_of 0 words) c f n) none
 
--- ---- where neither a file nor steps are named
+-- ---- where neither a file nor steps are named, and nothing is run
 is_named : (words : List (List ℕ)) (at : ℕ) → at < length words → name_at words (Some at) ≡ None → ⊥
 is_named words at within none =
     let there : slice_get words at ≡ Some (get_or words at []) = slice_get-get_or words at [] within in
@@ -53,33 +53,44 @@ named_by words (Some at) within some none = is_named words at (within at refl) n
 no_steps_there : (m : Mode) (n : ℕ) → m ≡ mode.Simulate n → steps_in m ≡ None → ⊥
 no_steps_there m n e none = (let f : Some n ≡ None = sym (ap steps_in e) ∙ none in cc)
 
-asked_by : (words : List (List ℕ)) (file : Option ℕ) (m : Mode) → ((at : ℕ) → file ≡ Some at → at < length words) → (file ≡ None → (n : ℕ) × (m ≡ mode.Simulate n)) → is_still m ≡ true → file_in words file m ≡ None → steps_in m ≡ None → ⊥
-asked_by words file mode.Show within steps still none no_steps =
+mapped_none : {A B : Type 0} (f : A → B) (o : Option A) → option_map f o ≡ None → o ≡ None
+mapped_none f None e = refl
+mapped_none f (Some x) e = absurd (let g : Some (f x) ≡ None = e in cc)
+
+abbrev with_again : Bool → List ℕ → List ℕ × Bool
+with_again again name = (name, again)
+
+asked_by : (words : List (List ℕ)) (file : Option ℕ) (again : Bool) (m : Mode) → ((at : ℕ) → file ≡ Some at → at < length words) → (file ≡ None → (n : ℕ) × (m ≡ mode.Simulate n)) → is_built m ≡ true
+    → file_in words file m ≡ None → cond (runs_quietly m) (option_map (with_again again) (name_at words file)) None ≡ None → steps_in m ≡ None → ⊥
+asked_by words file again mode.Show within steps built none no_run no_steps =
     named_by words file within (λ e. let s = steps e in no_steps_there mode.Show s.0 s.1 no_steps) none
-asked_by words file mode.RecoverOnly within steps still none no_steps =
+asked_by words file again mode.RecoverOnly within steps built none no_run no_steps =
     named_by words file within (λ e. let s = steps e in no_steps_there mode.RecoverOnly s.0 s.1 no_steps) none
-asked_by words file (mode.Simulate n) within steps still none no_steps = (let f : Some n ≡ None = no_steps in cc)
-asked_by words file mode.Validate within steps still none no_steps = cc
-asked_by words file mode.Journal within steps still none no_steps = cc
-asked_by words file mode.Recover within steps still none no_steps = cc
+asked_by words file again (mode.Simulate n) within steps built none no_run no_steps = (let f : Some n ≡ None = no_steps in cc)
+asked_by words file again mode.Validate within steps built none no_run no_steps =
+    named_by words file within (λ e. let s = steps e in no_steps_there mode.Validate s.0 s.1 no_steps) (mapped_none (with_again again) (name_at words file) no_run)
+asked_by words file again mode.Journal within steps built none no_run no_steps = cc
+asked_by words file again mode.Recover within steps built none no_run no_steps = cc
 
-built_one : (words : List (List ℕ)) (c : Command) (b : Bool) → is_still c.mode ≡ b → command_said words ≡ Some c → ((at : ℕ) → c.file ≡ Some at → at < length words) → file_by words (cond b (Some c) None) ≡ None → steps_by (cond b (Some c) None) ≡ None → cond b (Some c) None ≡ None
-built_one words c true e said within none no_steps = absurd (asked_by words c.file c.mode within (λ f. steps_or_file words c said f) e none no_steps)
-built_one words c false e said within none no_steps = refl
+built_one : (words : List (List ℕ)) (c : Command) (b : Bool) → is_built c.mode ≡ b → command_said words ≡ Some c → ((at : ℕ) → c.file ≡ Some at → at < length words)
+    → file_by words (cond b (Some c) None) ≡ None → run_by words (cond b (Some c) None) ≡ None → steps_by (cond b (Some c) None) ≡ None → cond b (Some c) None ≡ None
+built_one words c true e said within none no_run no_steps = absurd (asked_by words c.file c.reread c.mode within (λ f. steps_or_file words c said f) e none no_run no_steps)
+built_one words c false e said within none no_run no_steps = refl
 
-built_by : (words : List (List ℕ)) (o : Option Command) → command_said words ≡ o → ((c : Command) → o ≡ Some c → (at : ℕ) → c.file ≡ Some at → at < length words) → file_by words (still_only o) ≡ None → steps_by (still_only o) ≡ None → still_only o ≡ None
-built_by words None e within none no_steps = refl
-built_by words (Some c) e within none no_steps = built_one words c (is_still c.mode) refl e (within c refl) none no_steps
+built_by : (words : List (List ℕ)) (o : Option Command) → command_said words ≡ o → ((c : Command) → o ≡ Some c → (at : ℕ) → c.file ≡ Some at → at < length words)
+    → file_by words (built_only o) ≡ None → run_by words (built_only o) ≡ None → steps_by (built_only o) ≡ None → built_only o ≡ None
+built_by words None e within none no_run no_steps = refl
+built_by words (Some c) e within none no_run no_steps = built_one words c (is_built c.mode) refl e (within c refl) none no_run no_steps
 
 place_within : (o : Option Command) (n : ℕ) → IfSome o (λ c. IfSome c.file (λ at. at < n)) → (c : Command) → o ≡ Some c → (at : ℕ) → c.file ≡ Some at → at < n
 place_within o n within c e at f =
     let here : IfSome c.file (λ at. at < n) = subst (λ (x : Option Command). IfSome x (λ c. IfSome c.file (λ at. at < n))) e within in
     subst (λ (x : Option ℕ). IfSome x (λ at. at < n)) f here
 
-pub nothing_asked : (words : List (List ℕ)) (n : ℕ) (o : Option Command) → length words ≡ n → o ≡ command_said words → IfSome o (λ c. IfSome c.file (λ at. at < n)) → file_of words ≡ None → steps_of words ≡ None → command_built words ≡ None
-nothing_asked words n o many e within none no_steps =
+pub nothing_asked : (words : List (List ℕ)) (n : ℕ) (o : Option Command) → length words ≡ n → o ≡ command_said words → IfSome o (λ c. IfSome c.file (λ at. at < n)) → file_of words ≡ None → run_of words ≡ None → steps_of words ≡ None → command_built words ≡ None
+nothing_asked words n o many e within none no_run no_steps =
     built_by words (command_said words) refl
-    (λ c f at g. subst (λ (m : ℕ). at < m) (sym many) (place_within o n within c (e ∙ f) at g)) none no_steps
+    (λ c f at g. subst (λ (m : ℕ). at < m) (sym many) (place_within o n within c (e ∙ f) at g)) none no_run no_steps
 
 -- ---- a command has not both
 both_in : (words : List (List ℕ)) (file : Option ℕ) (m : Mode) (name : List ℕ) (n : ℕ) → file_in words file m ≡ Some name → steps_in m ≡ Some n → ⊥

@@ -2,3 +2,5 @@ pub mod Words
 pub mod Bytes
 pub mod Still
 pub mod Simulation
+pub mod Calls
+pub mod Runs

@@ -1,5 +1,5 @@
 -- What the words of a command ask for, of what is built so far.
-use Rattle.std.specs.Prelude.{ℕ, Bool, true, false, List, Option, Some, None, if◌then◌else◌, codes, take, drop, slice_get}
+use Rattle.std.specs.Prelude.{ℕ, Bool, true, false, List, Option, Some, None, if◌then◌else◌, ◌||◌, codes, take, drop, slice_get}
 use Rattle.std.specs.Option.{option_map}
 use Rattle.std.specs.Str.{bytes_eq}
 use Rattle.command_words.specs.Words.{command_said}
@@ -16,13 +16,25 @@ is_still mode.Validate = false
 is_still mode.Journal = false
 is_still mode.Recover = false
 
-abbrev pub still_only : Option Command → Option Command
-still_only None = None
-still_only (Some command) = if is_still command.mode then Some command else None
+-- a mode that runs a plan and keeps no journal
+abbrev pub runs_quietly : Mode → Bool
+runs_quietly mode.Validate = true
+runs_quietly mode.Show = false
+runs_quietly mode.RecoverOnly = false
+runs_quietly (mode.Simulate n) = false
+runs_quietly mode.Journal = false
+runs_quietly mode.Recover = false
+
+abbrev pub is_built : Mode → Bool
+is_built mode = is_still mode || runs_quietly mode
+
+abbrev pub built_only : Option Command → Option Command
+built_only None = None
+built_only (Some command) = if is_built command.mode then Some command else None
 
 -- the command that words say, of those that are built
 abbrev pub command_built : List (List ℕ) → Option Command
-command_built words = still_only (command_said words)
+command_built words = built_only (command_said words)
 
 -- the parameter file's name in the word that names it: joined to the option, or alone
 abbrev pub name_in : List ℕ → List ℕ
@@ -45,7 +57,7 @@ abbrev pub file_by : List (List ℕ) → Option Command → Option (List ℕ)
 file_by words None = None
 file_by words (Some command) = file_in words command.file command.mode
 
--- the name of a command's parameter file
+-- the name of a still command's parameter file
 abbrev pub file_of : List (List ℕ) → Option (List ℕ)
 file_of words = file_by words (command_built words)
 
@@ -80,3 +92,15 @@ shows_by (Some command) = is_show command.mode
 -- whether the plan is to be shown
 abbrev pub shows_plan : List (List ℕ) → Bool
 shows_plan words = shows_by (command_built words)
+
+-- the parameter file of a command that runs its plan, and whether the words ask that what was written is read again
+abbrev pub run_in : List (List ℕ) → Command → Option (List ℕ × Bool)
+run_in words command =
+    if runs_quietly command.mode then option_map (λ name. (name, command.reread)) (name_at words command.file) else None
+
+abbrev pub run_by : List (List ℕ) → Option Command → Option (List ℕ × Bool)
+run_by words None = None
+run_by words (Some command) = run_in words command
+
+abbrev pub run_of : List (List ℕ) → Option (List ℕ × Bool)
+run_of words = run_by words (command_built words)

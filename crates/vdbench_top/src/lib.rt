@@ -4,11 +4,13 @@
 //! that nothing which it opened stays out. It stands on all layers below.
 #![tactic(auto)]
 
+mod run;
 mod simulation;
 mod source;
 mod still;
 mod words;
 
 pub use command_words::{Command, Mode};
+pub use run::vdbench;
 pub use still::vdbench_still;
 pub use words::command_of;

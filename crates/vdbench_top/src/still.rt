@@ -202,7 +202,7 @@ fn run_named<Y: Yard, S: Sink>(
 }
 
 /// Says the last lines, and answers the status that the command ends with.
-fn end<S: Sink>(status: Status, printer: &mut Printer, out: &mut S) -> Status
+pub(crate) fn end<S: Sink>(status: Status, printer: &mut Printer, out: &mut S) -> Status
     ensures says { Says (printing printer.old.failed (S.taken out.old) (S.faults out.old)) (printing printer.new.failed (S.taken out.new) (S.faults out.new)) (last_text status) }
     ensures failed { printer.new.failed ≡ true → result ≡ Status.Sink }
     ensures good { printer.new.failed ≡ false → result ≡ status }
@@ -223,6 +223,9 @@ pub fn vdbench_still<Y: Yard, S: Sink>(
     yard: &mut Y,
     out: &mut S,
 ) -> Status
+    // The words ask for no runs.
+    requires still { run_of (map string_bytes words.now) ≡ None }
+
     // On every way out nothing of this call is out, and no journal is written.
     ensures keeps { Keeps (Y.seen yard.old) (Y.seen yard.new) }
     ensures journals { JournalsStay (Y.seen yard.old).disks (Y.seen yard.new).disks }
@@ -297,5 +300,5 @@ ghost use Rattle.run_report.specs.Says.{SaysFront};
 ghost use Rattle.run_report.specs.Plans.{plan_text};
 ghost use Rattle.run_report.specs.declared.status.Status.{Status as AStatus};
 ghost use Rattle.run_report.specs.Lines.{usage_text};
-ghost use Rattle.vdbench_top.specs.Words.{command_built, file_of, shows_plan as shows_plan_of, steps_of};
+ghost use Rattle.vdbench_top.specs.Words.{command_built, file_of, run_of, shows_plan as shows_plan_of, steps_of};
 ghost use Rattle.vdbench_top.specs.Simulation.{IsSimulated};

@@ -1,7 +1,7 @@
 // What the words of a command ask for, of what is built so far.
 ghost use Rattle.std.specs.Prelude.{◌≡◌, IfSome, Some, None, map, string_bytes, length};
 ghost use Rattle.std.specs.Option.{option_map};
-ghost use Rattle.vdbench_top.specs.Words.{command_built, file_of, is_show as shows_mode, is_still as still_mode, name_at as name_at_word, name_in as name_in_word, shows_plan as plan_shown, steps_of};
+ghost use Rattle.vdbench_top.specs.Words.{command_built, file_of, is_built as built_mode, is_show as shows_mode, is_still as still_mode, name_at as name_at_word, name_in as name_in_word, run_of, runs_quietly as quiet_mode, shows_plan as plan_shown, steps_of};
 
 use command_words::{Command, Mode};
 
@@ -15,14 +15,32 @@ fn is_still(mode: Mode) -> bool
     }
 }
 
-/// The command that the words say, of those that are built: `-s`, `-jro` and `-sim`. None for all other words.
+fn runs_quietly(mode: Mode) -> bool
+    ensures { result ≡ quiet_mode mode }
+{
+    match mode {
+        Mode::Validate => true,
+        Mode::Show | Mode::RecoverOnly => false,
+        Mode::Simulate(_) => false,
+        Mode::Journal | Mode::Recover => false,
+    }
+}
+
+fn is_built(mode: Mode) -> bool
+    ensures { result ≡ built_mode mode }
+{
+    is_still(mode) || runs_quietly(mode)
+}
+
+/// The command that the words say, of those that are built: `-s`, `-jro`, `-sim`, and `-v`, `-vr` or none of the modes. None for all
+/// other words.
 pub fn command_of(words: &[String]) -> Option<Command>
     ensures built { result ≡ command_built (map string_bytes words.now) }
     // Each command has a parameter file or a number of steps.
-    ensures asks { file_of (map string_bytes words.now) ≡ None → steps_of (map string_bytes words.now) ≡ None → command_built (map string_bytes words.now) ≡ None }
+    ensures asks { file_of (map string_bytes words.now) ≡ None → run_of (map string_bytes words.now) ≡ None → steps_of (map string_bytes words.now) ≡ None → command_built (map string_bytes words.now) ≡ None }
 {
     let command = command_words::command_of(words)?;
-    if is_still(command.mode) {
+    if is_built(command.mode) {
         Some(command)
     } else {
         None
@@ -45,10 +63,10 @@ fn name_at(words: &[String], file: Option<u32>) -> Option<&str>
     Some(name_in(word.as_str()))
 }
 
-/// The name of the parameter file, where the words are a command over one.
+/// The name of the parameter file, where the words are a still command over one.
 pub fn file_of_words(words: &[String]) -> Option<&str>
     ensures file { option_map (λ name. name.now) result ≡ file_of (map string_bytes words.now) }
-    ensures asks { file_of (map string_bytes words.now) ≡ None → steps_of (map string_bytes words.now) ≡ None → command_built (map string_bytes words.now) ≡ None }
+    ensures asks { file_of (map string_bytes words.now) ≡ None → run_of (map string_bytes words.now) ≡ None → steps_of (map string_bytes words.now) ≡ None → command_built (map string_bytes words.now) ≡ None }
 {
     let command = command_of(words)?;
     match command.mode {
@@ -56,6 +74,18 @@ pub fn file_of_words(words: &[String]) -> Option<&str>
         Mode::Simulate(_) => None,
         Mode::Validate | Mode::Journal | Mode::Recover => None,
     }
+}
+
+/// The name of the parameter file, and whether what was written is to be read again, where the words are a command that runs its plan.
+pub fn run_of_words(words: &[String]) -> Option<(&str, bool)>
+    ensures { option_map (λ run. (run.0.now, run.1)) result ≡ run_of (map string_bytes words.now) }
+{
+    let command = command_of(words)?;
+    if !runs_quietly(command.mode) {
+        return None;
+    }
+    let name = name_at(words, command.file)?;
+    Some((name, command.reread))
 }
 
 /// The number of steps, where the words ask for a schedule.

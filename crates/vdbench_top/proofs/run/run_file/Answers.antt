@@ -1,0 +1,22 @@
+use Rattle.vdbench_top.proofs.Runs.{file_ran, file_unplanned}
+use Rattle.vdbench_top.proofs.Statuses.{quietly_no_source}
+use Rattle.vdbench_top.proofs.run.run_file.Goals as goal
+
+pub returns-in-Err-clause-runs : goal.returns-in-Err-clause-runs
+returns-in-Err-clause-runs g c = file_unplanned _ _ _ _ _ _ _ _ _ c.in-Err.ensures.reads c.in-Err.ensures.unplanned
+
+pub returns-in-Err-clause-yard_quiet : goal.returns-in-Err-clause-yard_quiet
+returns-in-Err-clause-yard_quiet g c yard memory = c.in-Err.ensures.other_yard_quiet yard memory
+
+pub returns-in-Err-clause-source_quiet : goal.returns-in-Err-clause-source_quiet
+returns-in-Err-clause-source_quiet g c source memory path = c.in-Err.ensures.other_source_quiet source memory path
+
+pub returns-clause-source_fault : goal.returns-clause-source_fault
+returns-clause-source_fault g c e =
+    let v = c.run_quietly.ensures.ran in
+    absurd (quietly_no_source _ _ _ _ _ v.0 _ v.1 e)
+
+pub returns-clause-runs : goal.returns-clause-runs
+returns-clause-runs g c =
+    file_ran _ _ _ _ _ _ _ _ c.in-Ok.plan _ _ _ _ _ c.in-Ok.ensures.reads c.in-Ok.ensures.planned.0 c.with_rereads-plan.ensures c.run_quietly.ensures.ran
+    (cc (c.in-Ok.ensures.nothing_said.0, c.in-Ok.ensures.nothing_said.1))

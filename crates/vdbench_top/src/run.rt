@@ -1,0 +1,202 @@
+// A command that runs its plan.
+ghost use Rattle.std.specs.Prelude.{◌≡◌, ◌≢◌, ◌⊎◌, [], Bool, IfErr, IfOk, IsTrue, List, None, OnOk, Some, map, string_bytes, ℕ};
+ghost use Rattle.vd_outside.specs.Causes.{Rose};
+ghost use Rattle.vd_yard.specs.Counts.{arm_faults, source_faults};
+ghost use Rattle.vd_yard.specs.Yard.{StaysThere};
+ghost use Rattle.plan_types.specs.Valid.{IsPlan};
+ghost use Rattle.run_report.specs.Says.{Says, printing};
+ghost use Rattle.plan_runs.specs.Quiet.{CanEndRun};
+ghost use Rattle.plan_runs.specs.Stages.{stage};
+ghost use Rattle.vdbench_top.specs.Calls.{StillCall};
+ghost use Rattle.vdbench_top.specs.Runs.{HasNoPlan, OnlyReads, RunCall, RunsFile, rereading};
+ghost use Rattle.vdbench_top.specs.Still.{IsPlanOf};
+ghost use Rattle.vdbench_top.specs.Words.{run_of};
+
+use crate::source::{Unread, read_file};
+use crate::still::{end, vdbench_still};
+use crate::words::run_of_words;
+use plan_file::{Unplanned, plan_of_file};
+use plan_runs::run_quietly;
+use plan_types::Plan;
+use run_report::{Printer, Status, cannot_open_line, cannot_read_line};
+use std::alloc::Global;
+use std::sync::Wait;
+use std::thread::Threads;
+use still_plan::say_line;
+use vd_outside::{Sink, Text, Turnstile, Twin};
+use vd_yard::Yard;
+
+/// The plan of a parameter file; or the status, after its line was said.
+fn plan_of<Y: Yard, S: Sink>(
+    alloc: Global,
+    yard: &mut Y,
+    file: &Text,
+    printer: &mut Printer,
+    out: &mut S,
+) -> Result<Plan, Status>
+    ensures reads { OnlyReads (Y.seen yard.old) (Y.seen yard.new) }
+    ensures planned { IfOk result (λ plan. IsPlanOf (Y.seen yard.old) file.now plan × IsPlan plan) }
+    ensures nothing_said { OnOk result ((printer.new ≡ printer.old) × (out.new ≡ out.old)) }
+    ensures unplanned { IfErr result (λ status. (text : List ℕ) × HasNoPlan (Y.seen yard.old) (Y.seen yard.new) file.now text status
+        × Says (printing printer.old.failed (S.taken out.old) (S.faults out.old)) (printing printer.new.failed (S.taken out.new) (S.faults out.new)) text) }
+    ensures source_quiet { OnOk result ((q : List ℕ) → source_faults (Y.seen yard.new).counts q ≡ source_faults (Y.seen yard.old).counts q) }
+    ensures yard_quiet { OnOk result ((Y.seen yard.new).faults ≡ (Y.seen yard.old).faults) }
+    ensures other_source_quiet { IfErr result (λ status. status ≢ Status.Source → status ≢ Status.NoMemory → (q : List ℕ) → source_faults (Y.seen yard.new).counts q ≡ source_faults (Y.seen yard.old).counts q) }
+    ensures other_yard_quiet { IfErr result (λ status. status ≢ Status.Yard → status ≢ Status.NoMemory → (Y.seen yard.new).faults ≡ (Y.seen yard.old).faults) }
+{
+    let bytes = match read_file(alloc, yard, file) {
+        Ok(bytes) => bytes,
+        Err(Unread::Yard) => {
+            return Err(say_line(cannot_open_line(alloc, file), Status::Yard, printer, out));
+        }
+        Err(Unread::Source) => {
+            return Err(say_line(cannot_read_line(alloc, file), Status::Source, printer, out));
+        }
+        Err(Unread::NoMemory) => return Err(Status::NoMemory),
+    };
+    match plan_of_file(alloc, bytes.as_slice()) {
+        Ok(plan) => Ok(plan),
+        Err(Unplanned::Refused(line)) => {
+            printer.say(out, line.as_str());
+            Err(Status::Parameter)
+        }
+        Err(Unplanned::NoMemory) => Err(Status::NoMemory),
+    }
+}
+
+/// The plan, with rereads where they are asked for.
+fn with_rereads(plan: Plan, again: bool) -> Plan
+    ensures { result ≡ rereading again plan }
+{
+    let mut plan = plan;
+    plan.reread = plan.reread || again;
+    plan
+}
+
+/// The runs of the plan of a parameter file, without journals.
+fn run_file<Y: Yard, S: Sink, C: Twin, T: Turnstile, R: Threads + Wait + Sync>(
+    rt: &R,
+    alloc: Global,
+    yard: &mut Y,
+    file: &Text,
+    again: bool,
+    clock: &mut C,
+    gate: &T,
+    printer: &mut Printer,
+    out: &mut S,
+) -> Status
+    ensures runs { (text : List ℕ) × RunsFile Y.Arm.Pass.seen
+        (stage [] (Y.seen yard.old) (C.seen clock.old) 0 (printing printer.old.failed (S.taken out.old) (S.faults out.old)))
+        (stage [] (Y.seen yard.new) (C.seen clock.new) 0 (printing printer.new.failed (S.taken out.new) (S.faults out.new))) again file.now text result }
+    ensures out { (Y.seen yard.new).out ≡ (Y.seen yard.old).out }
+    ensures tells { (Y.seen yard.new).tells ≡ (Y.seen yard.old).tells }
+    ensures willing { IsTrue (Y.seen yard.old).willing → IsTrue (Y.seen yard.new).willing }
+    ensures files { StaysThere (Y.seen yard.old).files (Y.seen yard.new).files }
+    ensures disks { (Y.seen yard.new).disks ≡ (Y.seen yard.old).disks }
+    ensures yard_fault { result ≡ Status.Yard → Rose (Y.seen yard.old).faults (Y.seen yard.new).faults }
+    ensures yard_quiet { result ≢ Status.Yard → result ≢ Status.NoMemory → (Y.seen yard.new).faults ≡ (Y.seen yard.old).faults }
+    ensures source_fault { result ≡ Status.Source → Rose (source_faults (Y.seen yard.old).counts file.now) (source_faults (Y.seen yard.new).counts file.now) }
+    ensures source_quiet { result ≢ Status.Source → result ≢ Status.NoMemory → (path : List ℕ) → source_faults (Y.seen yard.new).counts path ≡ source_faults (Y.seen yard.old).counts path }
+    ensures device_fault { result ≡ Status.Device → (path : List ℕ) × Rose (arm_faults (Y.seen yard.old).counts path) (arm_faults (Y.seen yard.new).counts path) }
+    ensures device_quiet { result ≢ Status.Device → result ≢ Status.Yard → result ≢ Status.NoMemory → (path : List ℕ) → arm_faults (Y.seen yard.new).counts path ≡ arm_faults (Y.seen yard.old).counts path }
+    ensures can { CanEndRun result }
+{
+    let plan = match plan_of(alloc, yard, file, printer, out) {
+        Ok(plan) => with_rereads(plan, again),
+        Err(status) => return status,
+    };
+    run_quietly(rt, alloc, &plan, yard, clock, gate, printer, out)
+}
+
+/// The runs of the plan of the parameter file of this name, without journals.
+fn run_named<Y: Yard, S: Sink, C: Twin, T: Turnstile, R: Threads + Wait + Sync>(
+    rt: &R,
+    alloc: Global,
+    yard: &mut Y,
+    name: &str,
+    again: bool,
+    clock: &mut C,
+    gate: &T,
+    out: &mut S,
+) -> Status
+    ensures call { RunCall Y.Arm.Pass.seen (Y.seen yard.old) (Y.seen yard.new) (C.seen clock.old) (C.seen clock.new) (S.taken out.old) (S.taken out.new) (S.faults out.old) (S.faults out.new) again name.now result }
+    ensures out { (Y.seen yard.new).out ≡ (Y.seen yard.old).out }
+    ensures tells { (Y.seen yard.new).tells ≡ (Y.seen yard.old).tells }
+    ensures willing { IsTrue (Y.seen yard.old).willing → IsTrue (Y.seen yard.new).willing }
+    ensures files { StaysThere (Y.seen yard.old).files (Y.seen yard.new).files }
+    ensures disks { (Y.seen yard.new).disks ≡ (Y.seen yard.old).disks }
+    ensures yard_fault { result ≡ Status.Yard → Rose (Y.seen yard.old).faults (Y.seen yard.new).faults }
+    ensures yard_quiet { result ≢ Status.Yard → result ≢ Status.Sink → result ≢ Status.NoMemory → (Y.seen yard.new).faults ≡ (Y.seen yard.old).faults }
+    ensures source_fault { result ≡ Status.Source → Rose (source_faults (Y.seen yard.old).counts name.now) (source_faults (Y.seen yard.new).counts name.now) }
+    ensures source_quiet { result ≢ Status.Source → result ≢ Status.Sink → result ≢ Status.NoMemory → (path : List ℕ) → source_faults (Y.seen yard.new).counts path ≡ source_faults (Y.seen yard.old).counts path }
+    ensures device_fault { result ≡ Status.Device → (path : List ℕ) × Rose (arm_faults (Y.seen yard.old).counts path) (arm_faults (Y.seen yard.new).counts path) }
+    ensures device_quiet { result ≢ Status.Device → result ≢ Status.Yard → result ≢ Status.Sink → result ≢ Status.NoMemory → (path : List ℕ) → arm_faults (Y.seen yard.new).counts path ≡ arm_faults (Y.seen yard.old).counts path }
+    ensures can { (result ≡ Status.Sink) ⊎ CanEndRun result }
+    ensures sink_fault { result ≡ Status.Sink → Rose (S.faults out.old) (S.faults out.new) }
+    ensures sink_quiet { result ≢ Status.Sink → S.faults out.new ≡ S.faults out.old }
+{
+    let mut printer = Printer::new();
+    let Ok(file) = Text::from_str(alloc, name) else {
+        return end(Status::NoMemory, &mut printer, out);
+    };
+    let status = run_file(
+        rt,
+        alloc,
+        yard,
+        &file,
+        again,
+        clock,
+        gate,
+        &mut printer,
+        out,
+    );
+    end(status, &mut printer, out)
+}
+
+/// A command: a still one, or the runs of a plan without journals. `words` are those after the program's name. It answers the status that
+/// the command ends with. Workers may wait for a store's book, and rest until their turns are due.
+pub fn vdbench<Y: Yard, S: Sink, C: Twin, T: Turnstile, R: Threads + Wait + Sync>(
+    rt: &R,
+    alloc: Global,
+    words: &[String],
+    yard: &mut Y,
+    out: &mut S,
+    clock: &mut C,
+    gate: &T,
+) -> Status
+    // Where the words ask for no runs it is a still command, and the clock is as it was.
+    ensures still { run_of (map string_bytes words.now) ≡ None → StillCall (map string_bytes words.now) (Y.seen yard.old) (Y.seen yard.new) (S.taken out.old) (S.taken out.new) (S.faults out.old) (S.faults out.new) result }
+    ensures still_clock { run_of (map string_bytes words.now) ≡ None → C.seen clock.new ≡ C.seen clock.old }
+
+    // Else text and status are those of the runs of its parameter file's plan, or of what kept them from starting.
+    ensures runs { (asked : List ℕ × Bool) → run_of (map string_bytes words.now) ≡ Some asked →
+        RunCall Y.Arm.Pass.seen (Y.seen yard.old) (Y.seen yard.new) (C.seen clock.old) (C.seen clock.new) (S.taken out.old) (S.taken out.new) (S.faults out.old) (S.faults out.new) asked.1 asked.0 result }
+
+    // On every way out nothing of this call is out, and what the yard tells stays. Runs without journals touch no journal.
+    ensures out { (Y.seen yard.new).out ≡ (Y.seen yard.old).out }
+    ensures tells { (Y.seen yard.new).tells ≡ (Y.seen yard.old).tells }
+    ensures willing { IsTrue (Y.seen yard.old).willing → IsTrue (Y.seen yard.new).willing }
+    ensures files { StaysThere (Y.seen yard.old).files (Y.seen yard.new).files }
+    ensures disks { (asked : List ℕ × Bool) → run_of (map string_bytes words.now) ≡ Some asked → (Y.seen yard.new).disks ≡ (Y.seen yard.old).disks }
+
+    // Each status of an outside fault has its cause, over whatever yard and output, and with each other status, want of memory and a failed
+    // output aside, nothing of that kind failed; that the yard refused to open something may hide that an arm failed in an earlier run, whose
+    // lines then tell.
+    ensures yard_fault { result ≡ Status.Yard → Rose (Y.seen yard.old).faults (Y.seen yard.new).faults }
+    ensures yard_quiet { result ≢ Status.Yard → result ≢ Status.Sink → result ≢ Status.NoMemory → (Y.seen yard.new).faults ≡ (Y.seen yard.old).faults }
+    ensures source_fault { (asked : List ℕ × Bool) → run_of (map string_bytes words.now) ≡ Some asked → result ≡ Status.Source →
+        Rose (source_faults (Y.seen yard.old).counts asked.0) (source_faults (Y.seen yard.new).counts asked.0) }
+    ensures source_quiet { result ≢ Status.Source → result ≢ Status.Sink → result ≢ Status.NoMemory → (path : List ℕ) → source_faults (Y.seen yard.new).counts path ≡ source_faults (Y.seen yard.old).counts path }
+    ensures device_fault { result ≡ Status.Device → (path : List ℕ) × Rose (arm_faults (Y.seen yard.old).counts path) (arm_faults (Y.seen yard.new).counts path) }
+    ensures device_quiet { result ≢ Status.Device → result ≢ Status.Yard → result ≢ Status.Sink → result ≢ Status.NoMemory → (path : List ℕ) → arm_faults (Y.seen yard.new).counts path ≡ arm_faults (Y.seen yard.old).counts path }
+    ensures sink_fault { result ≡ Status.Sink → Rose (S.faults out.old) (S.faults out.new) }
+    ensures sink_quiet { result ≢ Status.Sink → S.faults out.new ≡ S.faults out.old }
+
+    // Runs without journals end by none of the statuses of journals or of words.
+    ensures can { (asked : List ℕ × Bool) → run_of (map string_bytes words.now) ≡ Some asked → (result ≡ Status.Sink) ⊎ CanEndRun result }
+{
+    match run_of_words(words) {
+        Some((name, again)) => run_named(rt, alloc, yard, name, again, clock, gate, out),
+        None => vdbench_still(alloc, words, yard, out),
+    }
+}
