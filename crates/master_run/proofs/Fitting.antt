@@ -74,10 +74,10 @@ standing_as view other tally arm fresh notes clock v a n =
     ∙ ap (λ (b : ArmSeen). standing other tally b notes clock) a
     ∙ ap (λ (m : ℕ). standing other tally fresh m clock) n
 
-pub worked_as : (rules : Rules) (store : StoreId) (turns : ℕ) (drawn other : List Turn) (before fresh after : Standing) (last : ℕ) (end : WorkEnd) → drawn ≡ other → before ≡ fresh → HasWorked rules store turns drawn before after last end → HasWorked rules store turns other fresh after last end
-worked_as rules store turns drawn other before fresh after last end d b worked =
-    subst (λ (s : Standing). HasWorked rules store turns other s after last end) b
-    (subst (λ (l : List Turn). HasWorked rules store turns l before after last end) d worked)
+pub worked_as : (rules : Rules) (store : StoreId) (turns : ℕ) (drawn other : List Turn) (before fresh after : Standing) (answers : List ℕ) (end : WorkEnd) → drawn ≡ other → before ≡ fresh → HasWorked rules store turns drawn before after answers end → HasWorked rules store turns other fresh after answers end
+worked_as rules store turns drawn other before fresh after answers end d b worked =
+    subst (λ (s : Standing). HasWorked rules store turns other s after answers end) b
+    (subst (λ (l : List Turn). HasWorked rules store turns l before after answers end) d worked)
 
 -- The greatest transfer of a store, with one share more.
 pub greatest_more : (shares : List Share) (i : ℕ) (share : Share) (store old new : ℕ) → i < length shares → share ≡ get_or shares i share → All (λ (s : Share). s.store ≡ store → s.xfersize ≤ old) (take i shares) → old ≤ new → (share.store ≡ store → share.xfersize ≤ new) → All (λ (s : Share). s.store ≡ store → s.xfersize ≤ new) (take (i + 1) shares)

@@ -18,6 +18,7 @@ use Rattle.claim_table.specs.Seats.{made_in}
 use Rattle.claim_table.specs.Sums.{total}
 use Rattle.claim_table.specs.declared.view.Made.{Made}
 use Rattle.claim_table.specs.declared.view.View.{View}
+use Rattle.error_limit.specs.Rule.{newest}
 use Rattle.error_limit.specs.Seats.{IsSeatOf as IsErrorSeatOf, Lasts, notes_of}
 use Rattle.error_limit.specs.declared.word.ErrorWord.{ErrorWord}
 use Rattle.slave_worker.specs.declared.hand.StoreHand.{StoreHand}
@@ -126,7 +127,7 @@ module _ {P B A C : Type 0} (pass_seen : P → PassSeen) (book_seen : B → Book
       ∙ total_map notes_of (λ (post : Post P A C). post.error_seat) (posts_of crews)
       ∙ sym (ap (total (λ (labor : Labor). labor.notes)) (labors_are crews) ∙ total_map (λ (labor : Labor). labor.notes) of_post (posts_of crews))
 
-  pub last_are : (count : ℕ) (crews : List (Crew P B A C)) → All (Lasts count) (map (λ (post : Post P A C). post.error_seat) (posts_of crews)) → All (λ (labor : Labor). labor.last ≤ count) (all_labors (map labors_of crews))
+  pub last_are : (count : ℕ) (crews : List (Crew P B A C)) → All (Lasts count) (map (λ (post : Post P A C). post.error_seat) (posts_of crews)) → All (λ (labor : Labor). newest labor.answers ≤ count) (all_labors (map labors_of crews))
   last_are count crews all =
-      All-same (λ (labor : Labor). labor.last ≤ count) (all_labors (map labors_of crews)) (map of_post (posts_of crews)) (labors_are crews)
-      (All-map (λ (labor : Labor). labor.last ≤ count) of_post (posts_of crews) (all_unmap (Lasts count) (λ (post : Post P A C). post.error_seat) (posts_of crews) all))
+      All-same (λ (labor : Labor). newest labor.answers ≤ count) (all_labors (map labors_of crews)) (map of_post (posts_of crews)) (labors_are crews)
+      (All-map (λ (labor : Labor). newest labor.answers ≤ count) of_post (posts_of crews) (all_unmap (Lasts count) (λ (post : Post P A C). post.error_seat) (posts_of crews) all))

@@ -12,6 +12,7 @@ use Rattle.key_state.specs.declared.seen.BookSeen.{BookSeen}
 use Rattle.claim_table.specs.Closings.{Returned}
 use Rattle.claim_table.specs.Openings.{made_with}
 use Rattle.claim_table.specs.Sums.{total}
+use Rattle.error_limit.specs.Rule.{newest}
 use Rattle.slave_worker.specs.declared.hand.RunAnswer.{RunAnswer}
 use Rattle.slave_worker.specs.declared.hand.StoreHand.{StoreHand}
 use Rattle.slave_worker.specs.Hands.{OfStore, hand_seen, workers_in}
@@ -64,7 +65,7 @@ pub record DidRun {P B : Type 0} (pass_seen : P → PassSeen) (book_seen : B →
   pub ends : answer.ends.items ≡ map (λ (labor : Labor). labor.end) (all_labors crews)
   -- the errors are those from before and all notes, of which none was answered more
   pub errors : answer.errors ≡ errors_before + total (λ (labor : Labor). labor.notes) (all_labors crews)
-  pub last : All (λ (labor : Labor). labor.last ≤ answer.errors) (all_labors crews)
+  pub last : All (λ (labor : Labor). newest labor.answers ≤ answer.errors) (all_labors crews)
   pub yard : WereUsed (arms_of plan (all_labors crews)) yard_before yard_after
 
 -- The hands came back as they were: each has the same book, and passes that tell what they told.

@@ -1,5 +1,5 @@
 -- What a worker of a run did.
-use Rattle.std.specs.Prelude.{◌≡◌, ℕ, ◌^◌, Bool, []}
+use Rattle.std.specs.Prelude.{◌≡◌, ℕ, ◌^◌, Bool, List, []}
 use Rattle.vd_base.specs.declared.geometry.StoreId.{StoreId}
 use Rattle.vd_outside.specs.Clocks.{ClockSeen}
 use Rattle.vd_arm.specs.Arm.{ArmSeen}
@@ -18,15 +18,15 @@ use Rattle.slave_worker.specs.Works.{HasWorked}
 use Rattle.slave_worker.specs.declared.did.WorkEnd.{WorkEnd}
 use Rattle.master_run.specs.Yards.{fresh_arm}
 
--- a worker after its work: the view of its seat, its tally, its arm, how often it noted an error and what its last note answered, its
--- clock, and why its work ended
+-- a worker after its work: the view of its seat, its tally, its arm, how often it noted an error and what its notes were answered, the
+-- newest first, its clock, and why its work ended
 pub record Labor : Type 0 where
   pub worker : WorkerPlan
   pub view : View
   pub tally : Tallied
   pub arm : ArmSeen
   pub notes : ℕ
-  pub last : ℕ
+  pub answers : List ℕ
   pub clock : ClockSeen
   pub end : WorkEnd
 
@@ -42,4 +42,4 @@ pub record DidWork (plan : Plan) (run : RunPlan) (store : StoreId) (start : ℕ)
   pub empty : Tallied
   pub is_empty : IsEmptyTally empty
   pub many : ℕ
-  pub worked : HasWorked (rules_of plan run labor.worker start) store run.turns (turns_of (task_of run labor.worker store.geometry) many) (standing (fresh made (2 ^ 32)) empty (fresh_arm sure) 0 clock) (standing labor.view labor.tally labor.arm labor.notes labor.clock) labor.last labor.end
+  pub worked : HasWorked (rules_of plan run labor.worker start) store run.turns (turns_of (task_of run labor.worker store.geometry) many) (standing (fresh made (2 ^ 32)) empty (fresh_arm sure) 0 clock) (standing labor.view labor.tally labor.arm labor.notes labor.clock) labor.answers labor.end

@@ -19,7 +19,7 @@ use Rattle.claim_table.specs.Views.{parts}
 use Rattle.claim_table.specs.declared.table.ClaimSeat.{ClaimSeat}
 use Rattle.claim_table.specs.declared.table.ClaimTable.{ClaimTable}
 use Rattle.claim_table.specs.declared.run.Run.{Run}
-use Rattle.error_limit.specs.Seats.{IsNew as IsNewErrorSeat, IsSeatOf as IsErrorSeatOf, last_of, notes_of}
+use Rattle.error_limit.specs.Seats.{IsNew as IsNewErrorSeat, IsSeatOf as IsErrorSeatOf, answers_of, notes_of}
 use Rattle.error_limit.specs.declared.word.ErrorWord.{ErrorWord}
 use Rattle.workload_gen.specs.Task.{task_of}
 use Rattle.slave_worker.specs.declared.hand.StoreHand.{StoreHand}
@@ -41,7 +41,7 @@ labor_of arm_seen clock_seen post = record {
   tally = post.tally;
   arm = arm_seen post.arm;
   notes = notes_of post.error_seat;
-  last = last_of post.error_seat;
+  answers = answers_of post.error_seat;
   clock = clock_seen post.clock;
   end = post.end;
 }

@@ -191,13 +191,13 @@ after_others tells kept (store ∷ stores) (one ∷ rest) path others =
     after_others tells (keep_at tells kept store.journal one.disk) stores rest path (λ place other is. others (suc place) other (place_later store other stores place is))
     ∙ keep_at_other tells kept store.journal one.disk path (others 0 store refl)
 
-apart_first : (first : StorePlan) (stores : List StorePlan) → AreJournalsApart (first ∷ stores) → (place : ℕ) (store : StorePlan) → slice_get stores place ≡ Some store → first.journal ≡ store.journal → ⊥
+pub apart_first : (first : StorePlan) (stores : List StorePlan) → AreJournalsApart (first ∷ stores) → (place : ℕ) (store : StorePlan) → slice_get stores place ≡ Some store → first.journal ≡ store.journal → ⊥
 apart_first first stores apart place store is e =
     let within = slice_get_within stores place store is in
     let same = get_or_from_slice_get stores place store store is in
     apart 0 (suc place) store (omega arith) (omega (arith, within)) (e ∙ sym (ap (λ (s : StorePlan). s.journal) same))
 
-apart_rest : (first : StorePlan) (stores : List StorePlan) → AreJournalsApart (first ∷ stores) → AreJournalsApart stores
+pub apart_rest : (first : StorePlan) (stores : List StorePlan) → AreJournalsApart (first ∷ stores) → AreJournalsApart stores
 apart_rest first stores apart i j d less within = apart (suc i) (suc j) d (omega (arith, less)) (omega (arith, within))
 
 first_kept : (tells : Bool) (old new : Kept DiskSeen) (store : StorePlan) (stores : List StorePlan) (disk : DiskSeen) (ends : List Ended) → IsTrue tells → AreJournalsApart (store ∷ stores)

@@ -46,7 +46,7 @@ path_grows : (starts : List Start) (first old new : Kept DiskSeen) (path : List 
     → Becomes starts first old path → Becomes starts first new path
 path_grows starts first old new path e (stays same) = stays (e ∙ same)
 path_grows starts first old new path e (is_journal j) = is_journal (journal_still starts first old new path e j)
-path_grows starts first old new path e (was_read r) = was_read (record { handed = r.handed; hands = r.hands; disk = r.disk; kept = e ∙ r.kept; same = r.same; later = r.later })
+path_grows starts first old new path e (was_read r) = was_read (record { was = r.was; had = r.had; disk = r.disk; kept = e ∙ r.kept; same = r.same; later = r.later })
 
 pub told_grows : (starts : List Start) (first old : Kept DiskSeen) (start : Start) (disk : DiskSeen) → IsAmong starts start → Journaled start (kept_at first start.journal) disk
     → ChangesOnlyJournals starts first old → ChangesOnlyJournals starts first (keep_at true old start.journal disk)
@@ -106,13 +106,13 @@ journal_among starts all old new path within j = record {
   journaled = j.journaled;
 }
 
-path_among : (starts all : List Start) (old new : Kept DiskSeen) (path : List ℕ) → ((place : ℕ) (start : Start) → slice_get starts place ≡ Some start → IsAmong all start)
+pub path_among : (starts all : List Start) (old new : Kept DiskSeen) (path : List ℕ) → ((place : ℕ) (start : Start) → slice_get starts place ≡ Some start → IsAmong all start)
     → Becomes starts old new path → Becomes all old new path
 path_among starts all old new path within (stays same) = stays same
 path_among starts all old new path within (is_journal j) = is_journal (journal_among starts all old new path within j)
 path_among starts all old new path within (was_read r) = was_read r
 
-first_among : (start : Start) (starts : List Start) (place : ℕ) (one : Start) → slice_get (start ∷ []) place ≡ Some one → IsAmong (start ∷ starts) one
+pub first_among : (start : Start) (starts : List Start) (place : ℕ) (one : Start) → slice_get (start ∷ []) place ≡ Some one → IsAmong (start ∷ starts) one
 first_among start starts zero one is = (0, is)
 first_among start starts (suc n) one is =
     let far = slice_get_within (start ∷ []) (suc n) one is in

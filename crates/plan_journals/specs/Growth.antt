@@ -40,14 +40,14 @@ pub record HasJournal (starts : List Start) (old new : Kept DiskSeen) (path : Li
   pub kept : kept_at new path ≡ Some disk
   pub journaled : Journaled start (kept_at old path) disk
 
--- At a path is kept the disk as it was handed out, but that its count of faults may have risen.
+-- At a path is kept the disk that was kept there, but that its count of faults may have risen.
 pub record OnlyRead (old new : Kept DiskSeen) (path : List ℕ) : Type 0 where
-  pub handed : DiskSeen
-  pub hands : IsHanded (kept_at old path) handed
+  pub was : DiskSeen
+  pub had : kept_at old path ≡ Some was
   pub disk : DiskSeen
   pub kept : kept_at new path ≡ Some disk
-  pub same : disk ≡ record handed { faults = disk.faults }
-  pub later : handed.faults ≤ disk.faults
+  pub same : disk ≡ record was { faults = disk.faults }
+  pub later : was.faults ≤ disk.faults
 
 -- A path has what it had, what is left of one of these journals, or a disk that was only read.
 pub data Becomes (starts : List Start) (old new : Kept DiskSeen) (path : List ℕ) : Type 0 where

@@ -69,7 +69,7 @@ all_tallied rules store intervals size (did ∷ dids) old turns was =
     (found_inside rules store did did.refusal refl turns.0)
 
 pub findings_lines : FindingsHaveLines
-findings_lines rules store turns drawn before after last end worked all =
+findings_lines rules store turns drawn before after answers end worked all =
     subst (λ (tally : Tallied). All (IsPrintable store) tally.findings) (sym worked.3.tally)
     (All-from_recursion (IsPrintable store) (tallied rules.intervals store.geometry.block_size worked.0 before.tally).findings
     (all_tallied rules store rules.intervals store.geometry.block_size worked.0 before.tally worked.1 (recursion_from_All (IsPrintable store) before.tally.findings all)))

@@ -77,7 +77,7 @@ module _ {P B : Type 0} (pass_seen : P → PassSeen) (book_seen : B → BookSeen
     prints lines labor is = record {
       known = slice_get_within plan.stores labor.worker.store is.store is.its_store;
       printable = subst (λ (o : Option StorePlan). IfSome o (λ (store : StorePlan). All (IsPrintable store.id) labor.tally.findings)) (sym is.its_store)
-          (lines (rules_of plan run labor.worker did.start) is.store.id run.turns _ _ _ labor.last labor.end is.did.worked
+          (lines (rules_of plan run labor.worker did.start) is.store.id run.turns _ _ _ labor.answers labor.end is.did.worked
           (subst (λ (l : List Finding). All (IsPrintable is.store.id) l) (sym is.did.is_empty.findings) (All-nil (IsPrintable is.store.id))));
     }
 

@@ -18,6 +18,7 @@ use Rattle.key_state.specs.declared.seen.BookSeen.{BookSeen}
 use Rattle.claim_table.specs.Openings.{made_with}
 use Rattle.claim_table.specs.Sums.{Each}
 use Rattle.claim_table.specs.declared.view.View.{View}
+use Rattle.error_limit.specs.Rule.{newest}
 use Rattle.slave_worker.specs.Ends.{Finished, rules_of}
 use Rattle.slave_worker.specs.Hands.{HandSeen, IsRunOf, hand_seen}
 use Rattle.slave_worker.specs.declared.did.Did.{Did}
@@ -95,7 +96,7 @@ module _ {P : Type 0} (pass_seen : P → PassSeen) (plan : Plan) (run : RunPlan)
     crew_quiet store hand back labors ran =
         each_both (DidWork plan run store.id beginning.start beginning.clock (made_with pass_seen quiet_seen store.id (length labors) hand.passes.items hand.book) (beginning.tells.sure AtArm store.path))
         (λ (labor : Labor). labor.view.shut ≡ true → false ≡ true) (λ (labor : Labor). is_epoch_end labor.end ≡ false) labors
-        (λ labor did shuts. no_book_end (rules_of plan run labor.worker beginning.start) run.turns did.worked.0 labor.view labor.last labor.clock labor.end did.worked.4 (λ shut. let so : false ≡ true = shuts shut in cc))
+        (λ labor did shuts. no_book_end (rules_of plan run labor.worker beginning.start) run.turns did.worked.0 labor.view (newest labor.answers) labor.clock labor.end did.worked.4 (λ shut. let so : false ≡ true = shuts shut in cc))
         (each_of_all (DidWork plan run store.id beginning.start beginning.clock (made_with pass_seen quiet_seen store.id (length labors) hand.passes.items hand.book) (beginning.tells.sure AtArm store.path)) labors ran.each)
         (each_unmapped (λ (view : View). view.shut ≡ true → (quiet_seen back.book).shut ≡ true) (λ (labor : Labor). labor.view) labors ran.returned.shut)
 

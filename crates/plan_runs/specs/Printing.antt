@@ -11,7 +11,7 @@ use Rattle.run_report.specs.Findings.{IsPrintable}
 -- What a worker finds is in its store's range.
 abbrev pub FindingsHaveLines : Type 0
 FindingsHaveLines =
-    (rules : Rules) (store : StoreId) (turns : ℕ) (drawn : List Turn) (before after : Standing) (last : ℕ) (end : WorkEnd)
-    → HasWorked rules store turns drawn before after last end
+    (rules : Rules) (store : StoreId) (turns : ℕ) (drawn : List Turn) (before after : Standing) (answers : List ℕ) (end : WorkEnd)
+    → HasWorked rules store turns drawn before after answers end
     → All (IsPrintable store) before.tally.findings
     → All (IsPrintable store) after.tally.findings

@@ -18,7 +18,7 @@ use Rattle.run_report.specs.Lines.{cannot_open_text}
 use Rattle.run_report.specs.Says.{Printing, Says}
 use Rattle.run_report.specs.declared.status.Status.{Status}
 use Rattle.run_report.specs.declared.status.Status.TheVariants as status
-use Rattle.plan_hands.specs.Openings.{Opened, OpensData, StopsOpening, data_path}
+use Rattle.plan_hands.specs.Openings.{HasOpenCause, Opened, OpensData, StopsOpening, data_path}
 use Rattle.plan_hands.specs.Stores.{Joins, not_of_run, of_run}
 use Rattle.plan_runs.specs.Books.{ran_status, ran_text}
 use Rattle.plan_runs.specs.Statuses.{weight_of, worse}
@@ -63,12 +63,14 @@ pub record RunNotStarted (run : RunPlan) (ready after : Stage) (why : RunFault) 
   pub named : (store : ℕ) → why ≡ refusal.Yard store → works_in run store ≡ true
   pub cause : HasYardCause ready.yard after.yard (Err why)
 
--- The passes that it needs couldn't all be opened; those before the first that couldn't are open.
+-- The passes that it needs couldn't all be opened; those before the first that couldn't are open. That a fault of the yard is named has its
+-- cause.
 pub record RunNotOpened (plan : Plan) (run : RunPlan) (before after : Stage) (why : RunFault) : Type 0 where
   pub stops : StopsOpening plan run before.yard before.hands after.hands why
   pub opens : OpensData before.yard after.yard
   pub clock : after.clock ≡ before.clock
   pub errors : after.errors ≡ before.errors
+  pub cause : HasOpenCause before.yard after.yard (Err why)
 
 -- the line of a run that couldn't be begun, and its status; want of memory has no line here
 abbrev pub fault_text : Plan → RunFault → List ℕ

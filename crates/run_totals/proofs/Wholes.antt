@@ -19,6 +19,7 @@ use Rattle.claim_table.specs.Sums.{Each, total}
 use Rattle.claim_table.specs.declared.view.Made.{Made}
 use Rattle.claim_table.specs.declared.view.View.{View}
 use Rattle.worker_tally.specs.Tallies.{Tallied}
+use Rattle.error_limit.specs.Rule.{newest}
 use Rattle.slave_worker.specs.Sentences.{all_reads}
 use Rattle.slave_worker.specs.declared.did.WorkEnd.{WorkEnd}
 use Rattle.slave_worker.specs.declared.did.WorkEnd.TheVariants as work_end
@@ -276,7 +277,7 @@ ends_have_causes pass_seen book_seen laws whole its i worker tally end at of_its
     let did : DidWork whole.plan whole.run crew.store.id whole.did.start whole.clock_after (made pass_seen book_seen laws whole its) (whole.yard_before.tells.sure AtArm crew.store.path) labor =
     all_at (DidWork whole.plan whole.run crew.store.id whole.did.start whole.clock_after (made pass_seen book_seen laws whole its) (whole.yard_before.tells.sure AtArm crew.store.path)) crew.labors there.0 labor crew.ran.each at_own in
     let shuts = each_at (λ (view : View). view.shut ≡ true → (book_seen its.back.book).shut ≡ true) (map (λ (l : Labor). l.view) crew.labors) there.0 labor.view crew.ran.returned.shut (get_map (λ (l : Labor). l.view) crew.labors there.0 labor at_own) in
-    let under = all_at (λ (l : Labor). l.last ≤ whole.answer.errors) all i labor whole.did.last one.1 in
+    let under = all_at (λ (l : Labor). newest l.answers ≤ whole.answer.errors) all i labor whole.did.last one.1 in
     let by : EndsBy pass_seen book_seen whole.plan whole.run whole.answer.errors labor.tally (book_seen its.back.book) labor.end =
     ends_by whole.plan whole.run crew.store.id whole.did.start whole.clock_after (made pass_seen book_seen laws whole its) (whole.yard_before.tells.sure AtArm crew.store.path) labor did pass_seen book_seen whole.answer.errors (book_seen its.back.book) under shuts in
     subst (λ (e : WorkEnd). EndsBy pass_seen book_seen whole.plan whole.run whole.answer.errors tally (book_seen its.back.book) e) is_end

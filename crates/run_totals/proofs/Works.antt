@@ -18,6 +18,7 @@ use Rattle.worker_tally.specs.declared.done.Refusal.{Refusal}
 use Rattle.worker_tally.specs.declared.done.Refusal.TheVariants as refusal
 use Rattle.worker_tally.specs.declared.row.Intervals.{Intervals}
 use Rattle.worker_tally.specs.declared.tally.Numbers.{Numbers}
+use Rattle.error_limit.specs.Rule.{newest}
 use Rattle.slave_worker.specs.Dids.{IsTurn}
 use Rattle.slave_worker.specs.Ends.{Finished, NoFault, last_look, rules_of}
 use Rattle.slave_worker.specs.Sentences.{FaultsAreCounted, FaultsAreFound, NoMoreCorrupt, NotedOnce, ReadsAreGood, WritesAreEnded, WritesAreGood, all_reads, corrupt_block_in, fault_in}
@@ -78,7 +79,7 @@ module _ (plan : Plan) (run : RunPlan) (store : StoreId) (start : ℕ) (clock : 
       let looks : ℕ = length dids + last_look labor.end in
       let each = did.worked.1 in
       let worked = did.worked.3 in
-      let calm = quiet rules run.turns dids labor.view labor.last labor.clock labor.end did.worked.4 in
+      let calm = quiet rules run.turns dids labor.view (newest labor.answers) labor.clock labor.end did.worked.4 in
       let writes = laws.writes rules store dids looks before after each worked in
       let reads = laws.reads rules store dids looks before after each worked in
       let good_writes = laws.good_writes rules store dids looks before after each worked in
@@ -146,11 +147,11 @@ module _ (plan : Plan) (run : RunPlan) (store : StoreId) (start : ℕ) (clock : 
       ap (λ (t : Tallied). t.numbers.corrupt) did.worked.3.tally
       ∙ corrupt_all rules store rules.intervals store.geometry.block_size did.worked.0 did.empty did.worked.1 (did.worked.5 fitted) ∙ none
 
-  pub ends_by : {P B : Type 0} (pass_seen : P → PassSeen) (book_seen : B → BookSeen) (errors : ℕ) (book : BookSeen) → labor.last ≤ errors → (labor.view.shut ≡ true → book.shut ≡ true) → EndsBy pass_seen book_seen plan run errors labor.tally book labor.end
-  ends_by pass_seen book_seen errors book under shuts = ended pass_seen book_seen plan run (rules_of plan run labor.worker start) did.worked.0 labor.view labor.last labor.clock labor.tally errors book labor.end did.worked.4 turns_are refl under shuts
+  pub ends_by : {P B : Type 0} (pass_seen : P → PassSeen) (book_seen : B → BookSeen) (errors : ℕ) (book : BookSeen) → newest labor.answers ≤ errors → (labor.view.shut ≡ true → book.shut ≡ true) → EndsBy pass_seen book_seen plan run errors labor.tally book labor.end
+  ends_by pass_seen book_seen errors book under shuts = ended pass_seen book_seen plan run (rules_of plan run labor.worker start) did.worked.0 labor.view (newest labor.answers) labor.clock labor.tally errors book labor.end did.worked.4 turns_are refl under shuts
 
   pub not_by_time : IsTrue clock.still → clock.last ≡ start → start < 2 ^ 63 → 1 ≤ run.elapsed → (time : ℕ) → labor.end ≡ work_end.TimeUp time → ⊥
   not_by_time still began early some time is =
       let rules : Rules = rules_of plan run labor.worker start in
       let stays : labor.clock.last ≡ clock.last = did.worked.3.clock.last still in
-      not_timed rules run.turns did.worked.0 labor.view labor.last labor.clock labor.end did.worked.4 (omega (arith, stays, began, early, some)) time is
+      not_timed rules run.turns did.worked.0 labor.view (newest labor.answers) labor.clock labor.end did.worked.4 (omega (arith, stays, began, early, some)) time is

@@ -175,6 +175,7 @@ had_claims rules store mine did all = record {
   uses = all.uses;
   agrees = all.agrees;
   refused = all.refused;
+  cause = all.cause;
 }
 
 pub act_all : (rules : Rules) (store : StoreId) (mine : List Try) (did : Did) (drawn : Turn) (entries : List Entry) (made : Done) (answered : Option BookFault) → IsDidOf did drawn entries made answered → HadAll rules store did → HadAll rules store (did_of mine did drawn entries made answered)

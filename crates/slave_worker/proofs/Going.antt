@@ -1,5 +1,5 @@
 -- What a worker's turns so far leave for the next.
-use Rattle.std.proofs.Common.{◌≡◌, ◌≢◌, inl, inr, nat_eq, eq-eqb, ne_eqb, ℕ, zero, suc, ◌+◌, ◌*◌, ◌/◌, ◌<◌, ◌≤◌, Bool, true, false, refl, sym, ap, subst, ◌∙◌, arith, All, IsSomeAnd, List, [], ◌∷◌, ◌++◌, length, length-append, map, slice_get, Option, Some, None, div-mul-le_self}
+use Rattle.std.proofs.Common.{◌≡◌, ◌≢◌, inl, inr, nat_eq, eq-eqb, ne_eqb, IsTrue, ℕ, zero, suc, ◌+◌, ◌*◌, ◌/◌, ◌<◌, ◌≤◌, Bool, true, false, refl, sym, ap, subst, ◌∙◌, arith, All, IsSomeAnd, List, [], ◌∷◌, ◌++◌, length, length-append, map, slice_get, Option, Some, None, div-mul-le_self}
 use Rattle.std.proofs.lemmas.Bool.{cases_eq}
 use Rattle.std.proofs.lemmas.Option.{get_or_from_slice_get, slice_get_within}
 use Rattle.vd_base.specs.Geometry.{IsGeometry}
@@ -20,10 +20,13 @@ use Rattle.worker_tally.specs.declared.row.Intervals.{Intervals}
 use Rattle.workload_gen.specs.Turns.{Drawing, drawn, turns_of}
 use Rattle.workload_gen.specs.declared.task.Task.{Task}
 use Rattle.workload_gen.specs.declared.turn.Turn.{Turn}
-use Rattle.slave_worker.specs.Dids.{IsTurn, fault_found, found_of, found_where_none}
+use Rattle.error_limit.specs.Rule.{newest}
+use Rattle.worker_tally.specs.declared.done.Done.{Done}
+use Rattle.slave_worker.proofs.Notings.{WentOn, below_behind, below_in_time, went_more}
+use Rattle.slave_worker.specs.Dids.{IsTurn, TimedAt, fault_found, found_of, found_where_none}
 use Rattle.slave_worker.specs.Ends.{EndsTurn, Finished, HasBytes, IsWorkOf, NoFault, ends_work, last_look}
-use Rattle.slave_worker.specs.Works.{HasWorked}
-use Rattle.slave_worker.specs.Standings.{AreIntervals, Standing, Worked, standing, turn_tallied}
+use Rattle.slave_worker.specs.Works.{HasWorked, Noted}
+use Rattle.slave_worker.specs.Standings.{AreIntervals, Standing, Ticked, Worked, found_many, standing, turn_tallied}
 use Rattle.slave_worker.specs.declared.did.Did.{Did}
 use Rattle.slave_worker.specs.declared.did.Rules.{Rules}
 use Rattle.slave_worker.specs.declared.did.WorkEnd.{WorkEnd}
@@ -107,19 +110,22 @@ pub record Turned (rules : Rules) (store : StoreId) (turns : List Turn) (looks :
   pub worked : Worked rules.intervals store.geometry.block_size dids looks before after
   pub no_fault : NoFault dids
   pub clean : Fitted before.view.made → Each (λ did. did.corrupt ≡ []) dids
+  pub timed : IsTrue before.clock.still → Each (λ did. TimedAt before.clock.last did.done) dids
 
 -- What the work has come to after so many of its turns.
-abbrev pub HasTurned : Rules → StoreId → ℕ → List Turn → Standing → Standing → Type 0
-HasTurned rules store number drawn before after = (dids : List Did) × (length dids ≡ number) × Turned rules store drawn number before after dids
+abbrev pub HasTurned : Rules → StoreId → ℕ → ℕ → List Turn → Standing → Standing → List ℕ → Type 0
+HasTurned rules store number turns drawn before after answers = (dids : List Did) × (length dids ≡ number) × Turned rules store drawn number before after dids × WentOn rules.limit (number < turns) dids answers
 
 -- one turn, as its contract tells it
-abbrev pub HasTaken : Rules → StoreId → Turn → Standing → Standing → ℕ → Option WorkEnd → Did → Type 0
-HasTaken rules store turn before after last how did =
+abbrev pub HasTaken : Rules → StoreId → Turn → Standing → Standing → List ℕ → List ℕ → Option WorkEnd → Did → Type 0
+HasTaken rules store turn before after answers_before answers_after how did =
     (did.turn ≡ turn)
     × IsTurn rules store did
     × Worked rules.intervals store.geometry.block_size (did ∷ []) 0 before after
-    × EndsTurn rules did after.view last how
+    × EndsTurn rules did after.view (newest answers_after) how
     × (Fitted before.view.made → did.corrupt ≡ [])
+    × (IsTrue before.clock.still → TimedAt before.clock.last did.done)
+    × Noted (found_many did) answers_before answers_after
 
 -- The clock was looked at once more.
 pub turned_look : (rules : Rules) (store : StoreId) (drawn : List Turn) (looks : ℕ) (before after : Standing) (dids : List Did) (clock : ClockSeen) (answer : ℕ) → Turned rules store drawn looks before after dids → Looked after.clock clock answer → Turned rules store drawn (looks + 1) before (standing after.view after.tally after.arm after.notes clock) dids
@@ -129,6 +135,7 @@ turned_look rules store drawn looks before after dids clock answer so looked = r
   worked = worked_look rules.intervals store.geometry.block_size dids looks before after clock answer so.worked looked;
   no_fault = so.no_fault;
   clean = so.clean;
+  timed = so.timed;
 }
 
 -- What a turn's end says where the work goes on, and where it ends.
@@ -161,43 +168,53 @@ pub few_more : (rules : Rules) (did : Did) (view : View) (last notes more : ℕ)
 few_more rules did view last notes more how is_last is ends bound noted not_last few =
     few_so (length (found_of did)) last notes more rules.limit (λ some. (went_none rules did view last how is_last is ends).1 not_last some) bound noted few
 
+-- A clock that stands still stands where it did.
+timed_same : {more time : ℕ} (made : Done) (old new : ClockSeen) → Ticked more time old new → (IsTrue new.still → TimedAt new.last made) → IsTrue old.still → TimedAt old.last made
+timed_same made old new ticked timed still = subst (λ (n : ℕ). TimedAt n made) (ticked.last still) (timed (subst (λ (b : Bool). IsTrue b) (sym ticked.still) still))
+
 -- One more turn, which met no fault.
-turned_more : (rules : Rules) (store : StoreId) (drawn : List Turn) (turn : Turn) (number : ℕ) (before middle after : Standing) (did : Did) (dids : List Did) → Turned rules store drawn (number + 1) before middle dids → did.turn ≡ turn → IsTurn rules store did → Worked rules.intervals store.geometry.block_size (did ∷ []) 0 middle after → did.fault ≡ None → (Fitted middle.view.made → did.corrupt ≡ []) → Turned rules store (turn ∷ drawn) (number + 1) before after (did ∷ dids)
-turned_more rules store drawn turn number before middle after did dids so turn_is is worked no_fault clean = record {
+turned_more : (rules : Rules) (store : StoreId) (drawn : List Turn) (turn : Turn) (number : ℕ) (before middle after : Standing) (did : Did) (dids : List Did) → Turned rules store drawn (number + 1) before middle dids → did.turn ≡ turn → IsTurn rules store did → Worked rules.intervals store.geometry.block_size (did ∷ []) 0 middle after → did.fault ≡ None → (Fitted middle.view.made → did.corrupt ≡ []) → (IsTrue middle.clock.still → TimedAt middle.clock.last did.done) → Turned rules store (turn ∷ drawn) (number + 1) before after (did ∷ dids)
+turned_more rules store drawn turn number before middle after did dids so turn_is is worked no_fault clean timed = record {
   each = (is, so.each);
   drawn = (let rest = so.drawn in cc);
   worked = worked_more rules.intervals store.geometry.block_size did dids (number + 1) before middle after so.worked worked;
   no_fault = (no_fault, so.no_fault);
   clean = λ fits. (clean (subst Fitted (sym so.worked.view.made) fits), so.clean fits);
+  timed = λ still. (timed_same did.done before.clock middle.clock so.worked.clock timed still, so.timed still);
 }
 
 -- The work goes on behind a turn.
-pub goes_on : (rules : Rules) (store : StoreId) (drawn : List Turn) (turn : Turn) (number last : ℕ) (before middle after : Standing) (did : Did) (dids : List Did) (how : Option WorkEnd) (is_last : Bool) → length dids ≡ number → Turned rules store drawn (number + 1) before middle dids → HasTaken rules store turn middle after last how did → ends_work how is_last ≡ None → HasTurned rules store (number + 1) (turn ∷ drawn) before after
-goes_on rules store drawn turn number last before middle after did dids how is_last many so took is =
-    let went = went_none rules did after.view last how is_last is took.3 in
-    (did ∷ dids, omega (arith, many), turned_more rules store drawn turn number before middle after did dids so took.0 took.1 took.2 went.0 took.4)
+pub goes_on : (rules : Rules) (store : StoreId) (drawn : List Turn) (turn : Turn) (number turns : ℕ) (before middle after : Standing) (did : Did) (dids : List Did) (answers answers_after : List ℕ) (how : Option WorkEnd) (is_last : Bool) → number < turns → length dids ≡ number → Turned rules store drawn (number + 1) before middle dids → WentOn rules.limit (number < turns) dids answers → HasTaken rules store turn middle after answers answers_after how did → ends_work how is_last ≡ None → (number + 1 < turns → is_last ≡ false) → HasTurned rules store (number + 1) turns (turn ∷ drawn) before after answers_after
+goes_on rules store drawn turn number turns before middle after did dids answers answers_after how is_last inside many so went_on took is not_last =
+    let went = went_none rules did after.view (newest answers_after) how is_last is took.3 in (
+      did ∷ dids,
+      omega (arith, many),
+      turned_more rules store drawn turn number before middle after did dids so took.0 took.1 took.2 went.0 took.4 took.5,
+      went_more rules.limit (number < turns) (number + 1 < turns) did dids answers answers_after inside went_on took.6 (λ on some. went.1 (not_last on) some),
+    )
 
 -- It ends with a turn.
-pub ends_with : (rules : Rules) (store : StoreId) (drawn : List Turn) (turn : Turn) (number turns last : ℕ) (before middle after : Standing) (did : Did) (dids : List Did) (how : Option WorkEnd) (is_last : Bool) (end : WorkEnd) → length dids ≡ number → number < turns → Turned rules store drawn (number + 1) before middle dids → HasTaken rules store turn middle after last how did → ends_work how is_last ≡ Some end → (is_last ≡ false → number + 1 < turns) → HasWorked rules store turns (turn ∷ drawn) before after last end
-ends_with rules store drawn turn number turns last before middle after did dids how is_last end many inside so took is not_last =
-    let ends = went_some rules turns did dids after.view last after.clock how is_last end is took.3 (λ other. let lt = not_last other in omega (arith, many, lt)) (omega (arith, many, inside)) so.no_fault in
+pub ends_with : (rules : Rules) (store : StoreId) (drawn : List Turn) (turn : Turn) (number turns : ℕ) (before middle after : Standing) (did : Did) (dids : List Did) (answers answers_after : List ℕ) (how : Option WorkEnd) (is_last : Bool) (end : WorkEnd) → length dids ≡ number → number < turns → Turned rules store drawn (number + 1) before middle dids → WentOn rules.limit (number < turns) dids answers → HasTaken rules store turn middle after answers answers_after how did → ends_work how is_last ≡ Some end → (is_last ≡ false → number + 1 < turns) → HasWorked rules store turns (turn ∷ drawn) before after answers_after end
+ends_with rules store drawn turn number turns before middle after did dids answers answers_after how is_last end many inside so went_on took is not_last =
+    let went = went_more rules.limit (number < turns) (number < turns → ⊥) did dids answers answers_after inside went_on took.6 (λ on some. absurd (on inside)) in
+    let ends = went_some rules turns did dids after.view (newest answers_after) after.clock how is_last end is took.3 (λ other. let lt = not_last other in omega (arith, many, lt)) (omega (arith, many, inside)) so.no_fault in
     let worked = worked_more rules.intervals store.geometry.block_size did dids (number + 1) before middle after so.worked took.2 in
     let looks : number + 1 ≡ length (did ∷ dids) + last_look end = omega (arith, many, ends.1) in
     let turn_is = took.0 in
     let rest = so.drawn in
-    (did ∷ dids, (took.1, so.each), cc, subst (λ (n : ℕ). Worked rules.intervals store.geometry.block_size (did ∷ dids) n before after) looks worked, ends.0, λ fits. (took.4 (subst Fitted (sym so.worked.view.made) fits), so.clean fits))
+    (did ∷ dids, (took.1, so.each), cc, subst (λ (n : ℕ). Worked rules.intervals store.geometry.block_size (did ∷ dids) n before after) looks worked, ends.0, (λ fits. (took.4 (subst Fitted (sym so.worked.view.made) fits), so.clean fits)), (λ still. (timed_same did.done before.clock middle.clock so.worked.clock took.5 still, so.timed still)), below_behind rules.limit (did ∷ dids) answers_after end ends.1 went.behind)
 
 -- It ends before a turn.
-pub ends_in_time : (rules : Rules) (store : StoreId) (drawn : List Turn) (number turns last time : ℕ) (before after : Standing) (dids : List Did) → length dids ≡ number → number < turns → Turned rules store drawn (number + 1) before after dids → after.clock.last ≡ time → rules.end ≤ time → HasWorked rules store turns drawn before after last (work_end.TimeUp time)
-ends_in_time rules store drawn number turns last time before after dids many fewer so is late =
+pub ends_in_time : (rules : Rules) (store : StoreId) (drawn : List Turn) (number turns time : ℕ) (before after : Standing) (dids : List Did) (answers : List ℕ) → length dids ≡ number → number < turns → Turned rules store drawn (number + 1) before after dids → WentOn rules.limit (number < turns) dids answers → after.clock.last ≡ time → rules.end ≤ time → HasWorked rules store turns drawn before after answers (work_end.TimeUp time)
+ends_in_time rules store drawn number turns time before after dids answers many fewer so went_on is late =
     let looks : number + 1 ≡ length dids + 1 = omega (arith, many) in
-    (dids, so.each, so.drawn, subst (λ (n : ℕ). Worked rules.intervals store.geometry.block_size dids n before after) looks so.worked, (omega (arith, many, fewer), so.no_fault, is, late), so.clean)
+    (dids, so.each, so.drawn, subst (λ (n : ℕ). Worked rules.intervals store.geometry.block_size dids n before after) looks so.worked, (omega (arith, many, fewer), so.no_fault, is, late), so.clean, so.timed, below_in_time rules.limit time dids answers (went_on.all fewer))
 
 -- All turns were made.
-pub ends_made : (rules : Rules) (store : StoreId) (drawn : List Turn) (turns last : ℕ) (before after : Standing) (dids : List Did) → length dids ≡ turns → Turned rules store drawn turns before after dids → HasWorked rules store turns drawn before after last work_end.TurnsMade
-ends_made rules store drawn turns last before after dids many so =
+pub ends_made : (rules : Rules) (store : StoreId) (drawn : List Turn) (turns : ℕ) (before after : Standing) (dids : List Did) (answers : List ℕ) (goes : Type 0) → length dids ≡ turns → Turned rules store drawn turns before after dids → WentOn rules.limit goes dids answers → HasWorked rules store turns drawn before after answers work_end.TurnsMade
+ends_made rules store drawn turns before after dids answers goes many so went_on =
     let looks : turns ≡ length dids + 0 = omega (arith, many) in
-    (dids, so.each, so.drawn, subst (λ (n : ℕ). Worked rules.intervals store.geometry.block_size dids n before after) looks so.worked, (many, so.no_fault), so.clean)
+    (dids, so.each, so.drawn, subst (λ (n : ℕ). Worked rules.intervals store.geometry.block_size dids n before after) looks so.worked, (many, so.no_fault), so.clean, so.timed, below_behind rules.limit dids answers work_end.TurnsMade refl went_on.behind)
 
 pub none_turned : (rules : Rules) (store : StoreId) (before : Standing) → Turned rules store [] 0 before before []
 none_turned rules store before = record {
@@ -206,6 +223,7 @@ none_turned rules store before = record {
   worked = worked_none rules.intervals store.geometry.block_size before;
   no_fault = tt;
   clean = λ fits. tt;
+  timed = λ still. tt;
 }
 
 -- Whether a turn is the last one.

@@ -119,6 +119,10 @@ second_none : (one two : Option BookFault) → first_fault one two ≡ None → 
 second_none None two is = is
 second_none (Some fault) two is = cc
 
+either_fault : (one two : Option BookFault) → IsSome (first_fault one two) → (is_some one ≡ true) ⊎ IsSome two
+either_fault None two some = inr some
+either_fault (Some fault) two some = inl refl
+
 some_fault : (one two : Option BookFault) (refused : Bool) → refused ≡ is_some one → refused ≡ true → IsSome (first_fault one two)
 some_fault None two refused is so_is = cc
 some_fault (Some fault) two refused is so_is = refl
@@ -165,6 +169,7 @@ held_all rules store drawn entries first again how run many one two before middl
       uses = (op.changed.0, subst (λ (p : Put). IsUsesOf p op.changed.0) (sym reports.put) op.changed.1, omega (arith, long, some_of));
       agrees = agrees_all rules store drawn entries first again how run many one two before middle after (rep.changed.3.gave.0 ++ op.changed.2.gave.0) op.changed.0 op rep op.changed.1 long (gave_more op.changed.2.gave.0 rep.changed.3.gave.0 before middle after rep.changed.3.gave.1 op.changed.2.gave.1);
       refused = λ so_is. some_fault one two (is_refused how) op.refused (ap is_refused (sym reports.put) ∙ so_is);
+      cause = λ some. elim (either_fault one two some) [ inl first_one ↦ inl (ap is_refused reports.put ∙ op.refused ∙ first_one) | inr second_one ↦ inr (omega (arith, some_of, rep.some second_one)) ];
     }
 
 -- What the seat knows of it.

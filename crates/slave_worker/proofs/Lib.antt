@@ -6,9 +6,12 @@ pub mod Growing
 pub mod Holdings
 pub mod Lookings
 pub mod Markings
+pub mod Notings
 pub mod Operatings
 pub mod Puttings
+pub mod Refusals
 pub mod Rises
+pub mod Stills
 pub mod Sentences
 pub mod Taking
 pub mod Turnwise

@@ -1,5 +1,5 @@
 -- What a turn did, from what its parts tell.
-use Rattle.std.proofs.Common.{◌≡◌, ℕ, ◌+◌, ◌-◌, ◌^◌, ◌<◌, ◌≤◌, ◌&&◌, min, max, cond, Bool, true, false, refl, sym, ap, subst, ◌∙◌, arith, nat_lt, nat_le, ltb-true, leb-true, leb-false, lt-ltb, [], ◌∷◌, length, Option, Some, None, IfSome}
+use Rattle.std.proofs.Common.{◌≡◌, ℕ, ◌+◌, ◌-◌, ◌^◌, ◌<◌, ◌≤◌, ◌&&◌, min, max, cond, Bool, IsTrue, true, false, List, refl, sym, ap, subst, ◌∙◌, arith, nat_lt, nat_le, ltb-true, leb-true, leb-false, lt-ltb, [], ◌∷◌, length, Option, Some, None, IfSome}
 use Rattle.vd_base.specs.declared.geometry.StoreId.{StoreId}
 use Rattle.vd_outside.specs.Clocks.{ClockSeen, rested}
 use Rattle.vd_arm.specs.Arm.{ArmSeen}
@@ -9,9 +9,12 @@ use Rattle.claim_table.specs.declared.view.View.{View}
 use Rattle.worker_tally.specs.Dones.{faults_of, good_reads_of, good_writes_of, has_called}
 use Rattle.worker_tally.specs.Tallies.{Tallied}
 use Rattle.workload_gen.specs.declared.turn.Turn.{Turn}
-use Rattle.slave_worker.specs.Dids.{IsTurn, found_of, looks_of, where_had}
+use Rattle.error_limit.specs.Rule.{newest}
+use Rattle.slave_worker.specs.Dids.{IsTurn, TimedAt, found_of, looks_of, where_had}
 use Rattle.slave_worker.specs.Ends.{EndsTurn, end_of}
-use Rattle.slave_worker.specs.Standings.{ArmCalls, DidCall, Ticked, ViewAfter, WasAnswered, Worked, standing, tallied}
+use Rattle.slave_worker.specs.Standings.{ArmCalls, DidCall, Ticked, ViewAfter, WasAnswered, Worked, found_many, standing, tallied}
+use Rattle.slave_worker.specs.Works.{Noted}
+use Rattle.slave_worker.proofs.Stills.{timed_rested}
 use Rattle.slave_worker.specs.declared.did.Did.{Did}
 use Rattle.slave_worker.specs.declared.did.Rules.{Rules}
 use Rattle.slave_worker.specs.declared.did.WorkEnd.{WorkEnd}
@@ -83,20 +86,23 @@ Acted rules store turn answered found before after tally_before tally_after arm_
     × Ticked (looks_of did) clock_before.until clock_before clock_after
     × (has_called did.done ≡ true → did.done.timed.after ≡ clock_after.last)
     × (Fitted before.made → did.corrupt ≡ [])
+    × (IsTrue clock_before.still → TimedAt clock_before.last did.done)
 
 -- What `take_turn` tells.
-abbrev pub Took : Rules → StoreId → Turn → View → View → Tallied → Tallied → ArmSeen → ArmSeen → ℕ → ℕ → ClockSeen → ClockSeen → ℕ → Option WorkEnd → Did → Type 0
-Took rules store turn before after tally_before tally_after arm_before arm_after notes_before notes_after clock_before clock_after last how did =
+abbrev pub Took : Rules → StoreId → Turn → View → View → Tallied → Tallied → ArmSeen → ArmSeen → List ℕ → List ℕ → ClockSeen → ClockSeen → Option WorkEnd → Did → Type 0
+Took rules store turn before after tally_before tally_after arm_before arm_after answers_before answers_after clock_before clock_after how did =
     (did.turn ≡ turn)
     × IsTurn rules store did
-    × Worked rules.intervals store.geometry.block_size (did ∷ []) 0 (standing before tally_before arm_before notes_before clock_before) (standing after tally_after arm_after notes_after clock_after)
-    × EndsTurn rules did after last how
+    × Worked rules.intervals store.geometry.block_size (did ∷ []) 0 (standing before tally_before arm_before (length answers_before) clock_before) (standing after tally_after arm_after (length answers_after) clock_after)
+    × EndsTurn rules did after (newest answers_after) how
     × (has_called did.done ≡ true → did.done.timed.after ≡ clock_after.last)
-    × (0 < length (found_of did) → notes_after ≤ last)
+    × (0 < length (found_of did) → length answers_after ≤ newest answers_after)
     × (Fitted before.made → did.corrupt ≡ [])
+    × (IsTrue clock_before.still → TimedAt clock_before.last did.done)
+    × Noted (found_many did) answers_before answers_after
 
-pub took : (rules : Rules) (store : StoreId) (turn : Turn) (before after : View) (tally_before tally_after : Tallied) (arm_before arm_after : ArmSeen) (notes_before notes_after : ℕ) (clock_before clock_rested clock_after : ClockSeen) (due last found seen : ℕ) (answered : Option BookFault) (how : Option WorkEnd) (did : Did) → due ≡ min (rules.intervals.start + turn.due) (2 ^ 64 - 1) → clock_rested ≡ rested due clock_before → Acted rules store turn answered found before after tally_before tally_after arm_before arm_after clock_rested clock_after did → notes_after ≡ notes_before + found → (0 < found → seen ≡ last) → (0 < found → notes_after ≤ last) → IfSome answered (λ fault. WasAnswered after fault) → how ≡ end_of rules.limit answered found seen → Took rules store turn before after tally_before tally_after arm_before arm_after notes_before notes_after clock_before clock_after last how did
-took rules store turn before after tally_before tally_after arm_before arm_after notes_before notes_after clock_before clock_rested clock_after due last found seen answered how did due_is rested_is acted notes noted bound was how_is = (
+pub took : (rules : Rules) (store : StoreId) (turn : Turn) (before after : View) (tally_before tally_after : Tallied) (arm_before arm_after : ArmSeen) (answers_before answers_after : List ℕ) (clock_before clock_rested clock_after : ClockSeen) (due found seen : ℕ) (answered : Option BookFault) (how : Option WorkEnd) (did : Did) → due ≡ min (rules.intervals.start + turn.due) (2 ^ 64 - 1) → clock_rested ≡ rested due clock_before → Acted rules store turn answered found before after tally_before tally_after arm_before arm_after clock_rested clock_after did → length answers_after ≡ length answers_before + found → (0 < found → seen ≡ newest answers_after) → (0 < found → length answers_after ≤ newest answers_after) → Noted found answers_before answers_after → IfSome answered (λ fault. WasAnswered after fault) → how ≡ end_of rules.limit answered found seen → Took rules store turn before after tally_before tally_after arm_before arm_after answers_before answers_after clock_before clock_after how did
+took rules store turn before after tally_before tally_after arm_before arm_after answers_before answers_after clock_before clock_rested clock_after due found seen answered how did due_is rested_is acted notes noted bound answers was how_is = (
   acted.0,
   acted.3,
   record {
@@ -106,8 +112,10 @@ took rules store turn before after tally_before tally_after arm_before arm_after
     notes = omega (arith, notes, acted.2);
     clock = clock_one rules.intervals.start (looks_of did) due did turn clock_before clock_rested clock_after acted.0 due_is rested_is acted.7;
   },
-  subst (λ (h : Option WorkEnd). EndsTurn rules did after last h) (sym how_is) (ends_turn rules did after answered found seen last acted.1 acted.2 noted was),
+  subst (λ (h : Option WorkEnd). EndsTurn rules did after (newest answers_after) h) (sym how_is) (ends_turn rules did after answered found seen (newest answers_after) acted.1 acted.2 noted was),
   acted.8,
   (λ some. bound (omega (arith, some, acted.2))),
   acted.9,
+  timed_rested did.done due clock_before clock_rested rested_is acted.10,
+  subst (λ (n : ℕ). Noted n answers_before answers_after) acted.2 answers,
 )

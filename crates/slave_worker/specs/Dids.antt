@@ -113,6 +113,8 @@ pub record HadAll (rules : Rules) (store : StoreId) (did : Did) : Type 0 where
   pub uses : (uses : ℕ) × IsUsesOf did.done.put uses × (length did.gave ≡ uses + length did.corrupt)
   pub agrees : AgreesWith did.fault did.gave
   pub refused : is_refused did.done.put ≡ true → IsSome did.fault
+  -- a fault is answered only where the write or a record of a corrupt block was refused
+  pub cause : IsSome did.fault → (is_refused did.done.put ≡ true) ⊎ (0 < length did.corrupt)
 
 -- One that had not: it reported nothing, made nothing bad and didn't use the book.
 pub record WasRefused (did : Did) : Type 0 where
@@ -167,6 +169,10 @@ wrote_of did = cond (where_had (λ done. ended_put done.put) did == 0) [] (falli
 -- how often it looked at the clock
 abbrev pub looks_of : Did → ℕ
 looks_of did = where_had (λ done. cond (has_called done) 2 0) did
+
+-- Where it called its device, both readings of the clock round its calls gave this time.
+abbrev pub TimedAt : ℕ → Done → Type 0
+TimedAt time done = has_called done ≡ true → (done.timed.before ≡ time) × (done.timed.after ≡ time)
 
 -- what was done, whenever it was
 abbrev pub done_of : ℕ → Bool → Look → Put → Look → Done

@@ -1,5 +1,5 @@
 -- Why a turn ends the work, and why the work ended.
-use Rattle.std.specs.Prelude.{◌≡◌, ℕ, ◌*◌, ◌+◌, ◌-◌, ◌^◌, ◌<◌, ◌≤◌, min, cond, nat_lt, nat_le, ◌&&◌, Bool, true, false, All, List, [], ◌∷◌, length, Option, Some, None, slice_get}
+use Rattle.std.specs.Prelude.{◌≡◌, ℕ, ◌*◌, ◌+◌, ◌-◌, ◌^◌, ◌<◌, ◌≤◌, min, cond, nat_lt, nat_le, ◌&&◌, Bool, true, false, All, List, [], ◌∷◌, drop, length, take, Option, Some, None, slice_get}
 use Rattle.vd_base.specs.declared.geometry.StoreId.{StoreId}
 use Rattle.vd_outside.specs.Clocks.{ClockSeen}
 use Rattle.plan_types.specs.Valid.{IsPlan, intervals_of}
@@ -8,9 +8,9 @@ use Rattle.plan_types.specs.declared.plan.Plan.{Plan}
 use Rattle.plan_types.specs.declared.run.RunPlan.{RunPlan}
 use Rattle.plan_types.specs.declared.run.WorkerPlan.{WorkerPlan}
 use Rattle.key_state.specs.declared.fault.BookFault.{BookFault}
-use Rattle.claim_table.specs.Sums.{Each}
+use Rattle.claim_table.specs.Sums.{Each, total}
 use Rattle.claim_table.specs.declared.view.View.{View}
-use Rattle.slave_worker.specs.Standings.{WasAnswered}
+use Rattle.slave_worker.specs.Standings.{WasAnswered, found_many}
 use Rattle.worker_tally.specs.declared.row.Intervals.{Intervals}
 use Rattle.slave_worker.specs.Dids.{found_of}
 use Rattle.slave_worker.specs.declared.did.Did.{Did}
@@ -50,6 +50,11 @@ EndsTurn rules did view last (Some (work_end.Book fault)) = (did.fault ≡ Some 
 EndsTurn rules did view last (Some work_end.TurnsMade) = ⊥
 EndsTurn rules did view last (Some (work_end.TimeUp time)) = ⊥
 
+-- how many errors the newest turn found
+abbrev pub found_first : List Did → ℕ
+found_first [] = 0
+found_first (did ∷ dids) = found_many did
+
 -- The newest turn found something.
 abbrev pub FoundSome : List Did → Type 0
 FoundSome [] = ⊥
@@ -61,6 +66,17 @@ Finished rules turns dids view last clock work_end.TurnsMade = (length dids ≡ 
 Finished rules turns dids view last clock (work_end.TimeUp time) = (length dids < turns) × NoFault dids × (clock.last ≡ time) × (rules.end ≤ time)
 Finished rules turns dids view last clock (work_end.ErrorLimit seen) = (length dids < turns) × NoFault dids × FoundSome dids × (seen ≡ last) × (rules.limit ≤ seen)
 Finished rules turns dids view last clock (work_end.Book fault) = (length dids ≤ turns) × MetFault dids fault × WasAnswered view fault
+
+-- how many errors the turn found behind which the work didn't go on: none where the time was up, and else what the newest turn found
+abbrev pub found_last : WorkEnd → List Did → ℕ
+found_last (work_end.TimeUp time) dids = 0
+found_last work_end.TurnsMade dids = found_first dids
+found_last (work_end.ErrorLimit seen) dids = found_first dids
+found_last (work_end.Book fault) dids = found_first dids
+
+-- Of the answers of the error seat, the newest first, those to the notes of turns behind which the work went on are below the limit.
+abbrev pub WentOnBelow : ℕ → List Did → List ℕ → WorkEnd → Type 0
+WentOnBelow limit dids answers end = Each (λ answer. answer < limit) (drop (found_last end dids) (take (total found_many dids) answers))
 
 -- one look more where the time was up
 abbrev pub last_look : WorkEnd → ℕ

@@ -1,5 +1,5 @@
 -- What a look at a run of blocks finds.
-use Rattle.std.specs.Prelude.{ℕ, ◌+◌, ◌≡◌, Bool, true, false, cond, min, nat_lt, is_some, List, [], ◌∷◌, Option, Some, None}
+use Rattle.std.specs.Prelude.{ℕ, ◌+◌, ◌≡◌, Bool, true, false, cond, min, nat_lt, is_some, List, [], ◌∷◌, Option, Some, None, IfSome}
 use Rattle.block_ops.specs.Runs.{is_settled}
 use Rattle.vd_base.specs.declared.geometry.BlockNo.{BlockNo}
 use Rattle.key_state.specs.declared.entry.Entry.{Entry}
@@ -14,6 +14,10 @@ use Rattle.slave_worker.specs.declared.watch.Watch.{Watch}
 -- 1 for a watch that was started
 abbrev pub started : Watch → ℕ
 started watch = cond (is_some watch.before) 1 0
+
+-- It was started at this time, if it was.
+abbrev pub StartedAt : ℕ → Watch → Type 0
+StartedAt time watch = IfSome watch.before (λ before. before ≡ time)
 
 -- what is found of a block by its verdict
 abbrev pub finding_of : ℕ → Entry → Verdict → List Finding → List Finding

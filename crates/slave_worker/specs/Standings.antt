@@ -1,12 +1,16 @@
 -- What a worker's turns change, all together.
-use Rattle.std.specs.Prelude.{◌≡◌, ◌≢◌, ℕ, zero, suc, ◌+◌, ◌-◌, ◌^◌, ◌<◌, ◌≤◌, max, min, cond, Bool, IsTrue, true, false, List, [], ◌∷◌, ◌++◌, length, Option, Some, None}
+use Rattle.std.specs.Prelude.{◌≡◌, ◌≢◌, ℕ, zero, suc, ◌+◌, ◌-◌, ◌^◌, ◌<◌, ◌≤◌, max, min, cond, Bool, IsTrue, true, false, List, [], ◌∷◌, ◌++◌, length, Option, Some, None, IsSome}
 use Rattle.vd_base.specs.declared.geometry.StoreId.{StoreId}
+use Rattle.vd_outside.specs.Causes.{Rose}
 use Rattle.vd_outside.specs.Clocks.{ClockSeen}
 use Rattle.vd_arm.specs.Arm.{ArmSeen, Counted, PassSeen}
+use Rattle.key_state.specs.Books.{Follows}
 use Rattle.key_state.specs.declared.fault.BookFault.{BookFault}
+use Rattle.key_state.specs.declared.fault.BookFault.TheVariants.{Failed, Stopped, EpochEnd}
 use Rattle.claim_table.specs.Runs.{ArePassesFor}
-use Rattle.claim_table.specs.Sums.{Each, total}
+use Rattle.claim_table.specs.Sums.{Among, Each, total}
 use Rattle.claim_table.specs.Views.{parts_in}
+use Rattle.claim_table.specs.declared.view.Made.{Made}
 use Rattle.claim_table.specs.declared.view.View.{View}
 use Rattle.block_ops.specs.Runs.{HeldRun}
 use Rattle.key_state.specs.declared.seen.BookSeen.{BookSeen}
@@ -63,9 +67,27 @@ pub record Ticked (more time : ℕ) (old new : ClockSeen) : Type 0 where
   pub last : IsTrue old.still → new.last ≡ old.last
   pub same : more ≡ 0 → new.last ≡ old.last
 
--- The fault was answered: the book that the seat gave back last is shut and agrees with it, as the view tells.
+-- Why a call of a book was refused with this fault: its count of faults rose in it, and it is stopped; or it was stopped before; or it
+-- was at the end of its last epoch. In these two nothing of it changed.
+abbrev pub Refuses : BookSeen → BookSeen → BookFault → Type 0
+Refuses lent given Failed = Rose lent.faults given.faults × IsSome given.stopped
+Refuses lent given (Stopped records) = (lent.stopped ≡ Some records) × (given ≡ lent)
+Refuses lent given (EpochEnd epoch) = (lent.stopped ≡ None) × (lent.shut ≡ true) × (epoch ≡ lent.epoch) × (given ≡ lent)
+
+-- What a seat with so many parts, which gave these books back, knows of the next one that it gets.
+pub record LentBehind (made : Made) (parts : ℕ) (gave : List BookSeen) (lent : BookSeen) : Type 0 where
+  pub follows : Follows made.book lent
+  pub after : Each (λ old. Follows old lent) gave
+  pub alone : parts ≡ parts_in made → Among lent (made.book ∷ gave)
+
+-- The seat's last use of the book was refused with this fault.
+abbrev pub WasLastRefused : View → BookFault → Type 0
+WasLastRefused view fault = (lent : BookSeen) × (given : BookSeen) × (others : List BookSeen) × (view.gave ≡ given ∷ others) × LentBehind view.made view.parts others lent × Refuses lent given fault
+
+-- The fault was answered: the book that the seat gave back last is shut and agrees with it, as the view tells; and it was refused to the
+-- seat's last use.
 abbrev pub WasAnswered : View → BookFault → Type 0
-WasAnswered view fault = GaveShut view fault × (view.shut ≡ true)
+WasAnswered view fault = GaveShut view fault × (view.shut ≡ true) × WasLastRefused view fault
 
 -- The book that the seat gave back last isn't stopped.
 abbrev pub GaveOpen : View → Type 0

@@ -8,7 +8,7 @@ ghost use Rattle.block_ops.specs.Runs.{IsLive, held_run};
 ghost use Rattle.worker_tally.specs.declared.done.Put.TheVariants.{Ended};
 ghost use Rattle.worker_tally.specs.Dones.{corrupt_in, ended_put, fault, good, unended_put};
 ghost use Rattle.slave_worker.specs.Dids.{AreCorrupt, some_used};
-ghost use Rattle.slave_worker.specs.Looks.{corrupt_run, found_by, started};
+ghost use Rattle.slave_worker.specs.Looks.{StartedAt, corrupt_run, found_by, started};
 ghost use Rattle.slave_worker.specs.Standings.{ArmCalls, HoldsPasses, Ticked};
 
 use crate::did::Rules;
@@ -78,6 +78,7 @@ pub(crate) fn look<A: Arm, C: Clock, T: Turnstile>(
     ensures called { ArmCalls (length held.old.entries.items * good result) 0 (fault result) (A.seen arm.old) (A.seen arm.new) }
     ensures watch { started watch.new ≡ 1 }
     ensures clock { Ticked (1 - started watch.old) (C.seen clock.old).until (C.seen clock.old) (C.seen clock.new) }
+    ensures at { IsTrue (C.seen clock.old).still → StartedAt (C.seen clock.old).last watch.old → StartedAt (C.seen clock.old).last watch.new }
     ensures corrupt { corrupt_in result ≡ length (found_by result held.old.first.0 held.old.entries.items verdicts.new) }
     ensures found { AreCorrupt store.now held.old.first.0 held.old.entries.items (found_by result held.old.first.0 held.old.entries.items verdicts.new) }
     ensures kept { good result ≡ 0 → verdicts.new ≡ verdicts.old }
@@ -119,6 +120,7 @@ pub(crate) fn first_look<A: Arm, C: Clock, T: Turnstile>(
     ensures called { ArmCalls (length held.old.entries.items * good result) 0 (fault result) (A.seen arm.old) (A.seen arm.new) }
     ensures watch { started watch.old ≡ 0 → started watch.new ≡ good result + fault result }
     ensures clock { started watch.old ≡ 0 → Ticked (started watch.new) (C.seen clock.old).until (C.seen clock.old) (C.seen clock.new) }
+    ensures at { IsTrue (C.seen clock.old).still → StartedAt (C.seen clock.old).last watch.old → StartedAt (C.seen clock.old).last watch.new }
     ensures corrupt { corrupt_in result ≡ length (found_by result held.old.first.0 held.old.entries.items verdicts.new) }
     ensures found { AreCorrupt store.now held.old.first.0 held.old.entries.items (found_by result held.old.first.0 held.old.entries.items verdicts.new) }
     ensures kept { good result ≡ 0 → verdicts.new ≡ verdicts.old }
@@ -153,6 +155,7 @@ pub(crate) fn second_look<A: Arm, C: Clock, T: Turnstile>(
     ensures called { ArmCalls (length held.old.entries.items * good result) 0 (fault result) (A.seen arm.old) (A.seen arm.new) }
     ensures watch { started watch.new ≡ started watch.old }
     ensures clock { Ticked 0 (C.seen clock.old).until (C.seen clock.old) (C.seen clock.new) }
+    ensures at { IsTrue (C.seen clock.old).still → StartedAt (C.seen clock.old).last watch.old → StartedAt (C.seen clock.old).last watch.new }
     ensures corrupt { corrupt_in result ≡ length (found_by result held.old.first.0 held.old.entries.items verdicts.new) }
     ensures found { AreCorrupt store.now held.old.first.0 held.old.entries.items (found_by result held.old.first.0 held.old.entries.items verdicts.new) }
     ensures kept { good result ≡ 0 → verdicts.new ≡ verdicts.old }

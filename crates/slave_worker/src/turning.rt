@@ -1,6 +1,6 @@
 // One turn of a worker.
-ghost use Rattle.std.specs.Prelude.{◌≡◌, ◌≢◌, ◌==◌, ◌+◌, ◌-◌, ◌*◌, ◌^◌, ◌<◌, ◌≤◌, ◌++◌, [], ◌∷◌, true, false, cond, is_some, length, min, max, IfSome, IsSome, IsSomeAnd, None, slice_get};
-ghost use Rattle.error_limit.specs.Seats.{IsSeatOf as IsErrorSeatOf, last_of, notes_of};
+ghost use Rattle.std.specs.Prelude.{◌≡◌, ◌≢◌, ◌==◌, ◌+◌, ◌-◌, ◌*◌, ◌^◌, ◌<◌, ◌≤◌, ◌++◌, [], ◌∷◌, ℕ, true, false, cond, is_some, length, min, max, IfSome, IsSome, IsSomeAnd, IsTrue, None, slice_get};
+ghost use Rattle.error_limit.specs.Seats.{IsSeatOf as IsErrorSeatOf, answers_of, last_of, notes_of};
 ghost use Rattle.claim_table.specs.Sums.{Each};
 ghost use Rattle.claim_table.specs.Passes.{Fitted};
 ghost use Rattle.claim_table.specs.Seats.{view_of, IsSeatOf};
@@ -9,10 +9,10 @@ ghost use Rattle.seat_ops.specs.Holds.{falling};
 ghost use Rattle.worker_tally.specs.Dones.{corrupt_in, ended_put, fault, fault_put, good, good_put, good_reads_of, good_writes_of, faults_of, has_called, corrupt_of, is_refused};
 ghost use Rattle.worker_tally.specs.Tallies.{IsSmall};
 ghost use Rattle.worker_tally.specs.declared.done.Put.TheVariants.{Skipped};
-ghost use Rattle.slave_worker.specs.Dids.{AreCorrupt, FollowsRules, HadAll, IsDidOf, IsTurn, IsUsesOf, judged_as, IsTurnOf, done_of, fault_found, first_fault, found_of, looks_of, wrote_of};
-ghost use Rattle.slave_worker.specs.Works.{TakenAs};
+ghost use Rattle.slave_worker.specs.Dids.{AreCorrupt, FollowsRules, HadAll, IsDidOf, IsTurn, IsUsesOf, judged_as, IsTurnOf, TimedAt, done_of, fault_found, first_fault, found_of, looks_of, wrote_of};
+ghost use Rattle.slave_worker.specs.Works.{Noted, TakenAs};
 ghost use Rattle.slave_worker.specs.Ends.{EndsTurn, end_of};
-ghost use Rattle.slave_worker.specs.Looks.{FindsNone, corrupt_run, forbids, reporting, started};
+ghost use Rattle.slave_worker.specs.Looks.{FindsNone, StartedAt, corrupt_run, forbids, reporting, started};
 ghost use Rattle.slave_worker.specs.Standings.{AreIntervals, ArmCalls, Changed, DidCall, GaveOpen, HoldsPasses, IsFree, Ticked, ViewAfter, WasAnswered, Worked, standing, tallied};
 ghost use Rattle.slave_worker.specs.declared.did.Did.{Did as ADid};
 
@@ -86,6 +86,7 @@ fn operate<A: Arm, B: Book, C: Clock, T: Turnstile, R: Wait>(
     ensures called { ArmCalls (length held.entries.items * (good result.first + good result.again)) (length held.entries.items * good_put result.put) (fault result.first + fault_put result.put + fault result.again) (A.seen arm.old) (A.seen arm.new) }
     ensures watch { started watch.new ≡ cond (has_called (done_of (length held.entries.items) read result.first result.put result.again)) 1 0 }
     ensures clock { Ticked (started watch.new) (C.seen clock.old).until (C.seen clock.old) (C.seen clock.new) }
+    ensures at { IsTrue (C.seen clock.old).still → StartedAt (C.seen clock.old).last watch.old → StartedAt (C.seen clock.old).last watch.new }
     ensures corrupt { corrupt_in result.first + corrupt_in result.again ≡ length (corrupt_run held.first.0 result.held.entries.items verdicts.new) }
     ensures found { AreCorrupt store.now held.first.0 (judged_as held.entries.items (done_of (length held.entries.items) read result.first result.put result.again)) (corrupt_run held.first.0 result.held.entries.items verdicts.new) }
     ensures refused { is_refused result.put ≡ is_some result.fault }
@@ -145,6 +146,7 @@ fn operate<A: Arm, B: Book, C: Clock, T: Turnstile, R: Wait>(
 fn timed<C: Clock>(watch: Watch, clock: &mut C) -> Timed
     ensures clock { Ticked (started watch) (C.seen clock.old).until (C.seen clock.old) (C.seen clock.new) }
     ensures after { started watch ≡ 1 → result.after ≡ (C.seen clock.new).last }
+    ensures before { (time : ℕ) → started watch ≡ 1 → StartedAt time watch → result.before ≡ time }
 {
     match watch.before {
         Some(before) => Timed {
@@ -240,6 +242,7 @@ fn hold<A: Arm, B: Book, C: Clock, T: Turnstile, R: Wait>(
     ensures called { ArmCalls (good_reads_of result.1) (good_writes_of result.1) (faults_of result.1) (A.seen arm.old) (A.seen arm.new) }
     ensures clock { Ticked (cond (has_called result.1) 2 0) (C.seen clock.old).until (C.seen clock.old) (C.seen clock.new) }
     ensures time { has_called result.1 ≡ true → result.1.timed.after ≡ (C.seen clock.new).last }
+    ensures still { IsTrue (C.seen clock.old).still → TimedAt (C.seen clock.old).last result.1 }
     ensures fault { IfSome result.2 (λ fault. WasAnswered (view_of seat.new) fault) }
     ensures sound { Fitted (view_of seat.old).made → corrupt_of result.1 ≡ 0 }
 {
@@ -322,7 +325,7 @@ fn act<A: Arm, B: Book, C: Clock, T: Turnstile, R: Wait>(
     ensures of { IsSeatOf table.now seat.new }
     ensures free { IsFree (view_of seat.new) }
     ensures empty { result.0.entries.items ≡ [] }
-    ensures did { (did : ADid) × (did.turn ≡ turn.now) × (did.fault ≡ result.1) × (result.2 ≡ length (found_of did)) × IsTurn rules.now store.now did × ViewAfter (did ∷ []) (view_of seat.old) (view_of seat.new) × (tally.new ≡ tallied rules.now.intervals store.now.geometry.block_size (did ∷ []) tally.old) × DidCall did (A.seen arm.old) (A.seen arm.new) × Ticked (looks_of did) (C.seen clock.old).until (C.seen clock.old) (C.seen clock.new) × (has_called did.done ≡ true → did.done.timed.after ≡ (C.seen clock.new).last) × (Fitted (view_of seat.old).made → did.corrupt ≡ []) }
+    ensures did { (did : ADid) × (did.turn ≡ turn.now) × (did.fault ≡ result.1) × (result.2 ≡ length (found_of did)) × IsTurn rules.now store.now did × ViewAfter (did ∷ []) (view_of seat.old) (view_of seat.new) × (tally.new ≡ tallied rules.now.intervals store.now.geometry.block_size (did ∷ []) tally.old) × DidCall did (A.seen arm.old) (A.seen arm.new) × Ticked (looks_of did) (C.seen clock.old).until (C.seen clock.old) (C.seen clock.new) × (has_called did.done ≡ true → did.done.timed.after ≡ (C.seen clock.new).last) × (Fitted (view_of seat.old).made → did.corrupt ≡ []) × (IsTrue (C.seen clock.old).still → TimedAt (C.seen clock.old).last did.done) }
     ensures few { result.2 ≤ 64 }
     ensures fault { IfSome result.1 (λ fault. WasAnswered (view_of seat.new) fault) }
 {
@@ -353,7 +356,7 @@ fn note_errors(errors: &ErrorWord, error_seat: &mut ErrorSeat, many: u32) -> u64
     ensures notes { notes_of error_seat.new ≡ notes_of error_seat.old + many }
     ensures last { 0 < many → result ≡ last_of error_seat.new }
     ensures bound { 0 < many → notes_of error_seat.new ≤ last_of error_seat.new }
-    ensures none { many ≡ 0 → last_of error_seat.new ≡ last_of error_seat.old }
+    ensures answers { Noted many (answers_of error_seat.old) (answers_of error_seat.new) }
 {
     let mut last = 0;
     for _ in 0..many {
@@ -409,7 +412,7 @@ pub(crate) fn take_turn<A: Arm, B: Book, C: Clock, T: Turnstile, R: Wait>(
     ensures errors { IsErrorSeatOf errors.now error_seat.new }
     ensures empty { result.0.entries.items ≡ [] }
     ensures size { length buf.new ≡ length buf.old }
-    ensures did { TakenAs rules.now store.now turn.now (view_of seat.old) (view_of seat.new) tally.old tally.new (A.seen arm.old) (A.seen arm.new) (notes_of error_seat.old) (notes_of error_seat.new) (C.seen clock.old) (C.seen clock.new) (last_of error_seat.new) result.1 }
+    ensures did { TakenAs rules.now store.now turn.now (view_of seat.old) (view_of seat.new) tally.old tally.new (A.seen arm.old) (A.seen arm.new) (answers_of error_seat.old) (answers_of error_seat.new) (C.seen clock.old) (C.seen clock.new) result.1 }
 {
     clock.rest(rules.intervals.start.saturating_add(turn.due));
     let caller = Caller {

@@ -1,6 +1,6 @@
 // When a turn's transfers began.
-ghost use Rattle.std.specs.Prelude.{◌≡◌, ◌-◌, IsSome};
-ghost use Rattle.slave_worker.specs.Looks.{started};
+ghost use Rattle.std.specs.Prelude.{◌≡◌, ◌-◌, IsSome, IsTrue};
+ghost use Rattle.slave_worker.specs.Looks.{StartedAt, started};
 ghost use Rattle.slave_worker.specs.Standings.{Ticked};
 
 use vd_outside::Clock;
@@ -17,6 +17,7 @@ impl Watch {
         ensures started { started self.new ≡ 1 }
         ensures kept { started self.old ≡ 1 → self.new ≡ self.old }
         ensures clock { Ticked (1 - started self.old) (C.seen clock.old).until (C.seen clock.old) (C.seen clock.new) }
+        ensures at { IsTrue (C.seen clock.old).still → StartedAt (C.seen clock.old).last self.old → StartedAt (C.seen clock.old).last self.new }
     {
         if self.before.is_none() {
             self.before = Some(clock.now());

@@ -1,6 +1,6 @@
 // The work of a worker: its turns one after the other.
 ghost use Rattle.std.specs.Prelude.{◌≡◌, ◌+◌, ◌*◌, ◌^◌, ◌<◌, ◌≤◌, [], ◌∷◌, true, length, List, map};
-ghost use Rattle.error_limit.specs.Seats.{IsSeatOf as IsErrorSeatOf, last_of, notes_of};
+ghost use Rattle.error_limit.specs.Seats.{IsSeatOf as IsErrorSeatOf, answers_of, notes_of};
 ghost use Rattle.claim_table.specs.Sums.{Each};
 ghost use Rattle.claim_table.specs.Passes.{Fitted};
 ghost use Rattle.claim_table.specs.Seats.{view_of, IsSeatOf};
@@ -48,7 +48,8 @@ fn rules_of(plan: &Plan, run: &RunPlan, worker: &WorkerPlan, start: u64) -> Rule
 }
 
 /// One turn of a worker: it rests until the turn is due, claims its blocks, reads or writes them by the rules, reports each corrupt block
-/// and makes it bad until the book refuses, notes each error that it reported, and releases them. A busy or a bad block ends the turn without an operation.
+/// and makes it bad until the book refuses, releases them, and then notes each error that it reported. A busy or a bad block ends the turn
+/// without an operation.
 ///
 /// `number` is the turn's number, as the gate sees it. `buf` has at least the bytes of the turn's blocks; `room` is an empty run, which
 /// is given back. It answers why the work ends with this turn: the book's fault, or the limit of errors that its last note reached;
@@ -90,7 +91,7 @@ pub fn one_turn<A: Arm, B: Book, C: Clock, T: Turnstile, R: Wait>(
     ensures errors { IsErrorSeatOf errors.now error_seat.new }
     ensures empty { result.0.entries.items ≡ [] }
     ensures size { length buf.new ≡ length buf.old }
-    ensures did { TakenAs (rules_of plan.now run.now worker.now start) store.now turn.now (view_of seat.old) (view_of seat.new) tally.old tally.new (A.seen arm.old) (A.seen arm.new) (notes_of error_seat.old) (notes_of error_seat.new) (C.seen clock.old) (C.seen clock.new) (last_of error_seat.new) result.1 }
+    ensures did { TakenAs (rules_of plan.now run.now worker.now start) store.now turn.now (view_of seat.old) (view_of seat.new) tally.old tally.new (A.seen arm.old) (A.seen arm.new) (answers_of error_seat.old) (answers_of error_seat.new) (C.seen clock.old) (C.seen clock.new) result.1 }
 {
     let rules = rules_of(plan, run, worker, start);
     take_turn(
@@ -140,7 +141,7 @@ pub fn work<A: Arm, B: Book, C: Clock, T: Turnstile, R: Wait>(
     ensures of { IsSeatOf table.now seat.new }
     ensures free { IsFree (view_of seat.new) }
     ensures errors { IsErrorSeatOf errors.now error_seat.new }
-    ensures worked { HasWorked (rules_of plan.now run.now worker.now start) store.now run.now.turns (drawn draw.new) (standing (view_of seat.old) tally.old (A.seen arm.old) (notes_of error_seat.old) (C.seen clock.old)) (standing (view_of seat.new) tally.new (A.seen arm.new) (notes_of error_seat.new) (C.seen clock.new)) (last_of error_seat.new) result }
+    ensures worked { HasWorked (rules_of plan.now run.now worker.now start) store.now run.now.turns (drawn draw.new) (standing (view_of seat.old) tally.old (A.seen arm.old) (notes_of error_seat.old) (C.seen clock.old)) (standing (view_of seat.new) tally.new (A.seen arm.new) (notes_of error_seat.new) (C.seen clock.new)) (answers_of error_seat.new) result }
     ensures task { draw.new.task ≡ draw.old.task }
 {
     // The laws by which each turn leaves the tally room for the next.

@@ -1,5 +1,5 @@
 // The write of a run of blocks, from its beginning in the book to its end.
-ghost use Rattle.std.specs.Prelude.{◌≡◌, ◌≢◌, ◌==◌, ◌+◌, ◌-◌, ◌*◌, ◌<◌, ◌≤◌, [], cond, is_some, length, map, IfSome, None};
+ghost use Rattle.std.specs.Prelude.{◌≡◌, ◌≢◌, ◌==◌, ◌+◌, ◌-◌, ◌*◌, ◌<◌, ◌≤◌, [], cond, is_some, length, map, IfSome, IsTrue, None};
 ghost use Rattle.key_state.specs.Entries.{begun, ended};
 ghost use Rattle.claim_table.specs.Sums.{Each};
 ghost use Rattle.claim_table.specs.Seats.{view_of, IsSeatOf};
@@ -7,7 +7,7 @@ ghost use Rattle.block_ops.specs.Runs.{IsLive, held_run};
 ghost use Rattle.seat_ops.specs.Holds.{falling};
 ghost use Rattle.worker_tally.specs.Dones.{ended_put, fault_put, good_put, is_refused};
 ghost use Rattle.worker_tally.specs.declared.done.Put.TheVariants.{Ended, Skipped};
-ghost use Rattle.slave_worker.specs.Looks.{first_settled, started};
+ghost use Rattle.slave_worker.specs.Looks.{StartedAt, first_settled, started};
 ghost use Rattle.slave_worker.specs.Standings.{ArmCalls, Changed, GaveOpen, HoldsPasses, Ticked, WasAnswered};
 ghost use Rattle.slave_worker.specs.Dids.{IsUsesOf};
 
@@ -62,6 +62,7 @@ pub(crate) fn put<A: Arm, B: Book, C: Clock, T: Turnstile, R: Wait>(
     ensures changed { (uses : _) × IsUsesOf result.1 uses × Changed uses (view_of seat.old) (view_of seat.new) (cond (ended_put result.1 == 0) [] (falling held.first.0 (length held.entries.items))) [] }
     ensures called { ArmCalls 0 (length held.entries.items * good_put result.1) (fault_put result.1) (A.seen arm.old) (A.seen arm.new) }
     ensures clock { Ticked (started watch.new - started watch.old) (C.seen clock.old).until (C.seen clock.old) (C.seen clock.new) }
+    ensures at { IsTrue (C.seen clock.old).still → StartedAt (C.seen clock.old).last watch.old → StartedAt (C.seen clock.old).last watch.new }
     ensures watch { started watch.old ≤ started watch.new }
     ensures watched { started watch.old ≡ 0 → started watch.new ≡ good_put result.1 + fault_put result.1 }
     ensures put { result.1 ≢ Skipped }

@@ -48,7 +48,17 @@ returns-in-Err-clause-ran g c =
     let stopped = subst (λ (l : List (StoreHand g.row.Y-Arm-Pass.Denot g.row.B.Denot)). StopsOpening c.args.plan.now c.args.run.now yard (map seen c.args.hands.now.items) (map seen l) c.in-Err.fault) (sym whole) stops in
     let first = stage (map seen c.args.hands.now.items) yard (g.C.Clock.seen c.args.clock.now) c.args.errors.now (printing c.args.printer.now.failed (g.S.Sink.taken c.args.out.now) (g.S.Sink.faults c.args.out.now)) in
     let last = stage (map seen (take c.args.hands.now.len (c.open_passes.new.hands ++ drop (length c.open_passes.new.hands) c.args.hands.now.items))) (g.Y.Yard.seen c.open_passes.new.yard) (g.C.Clock.seen c.args.clock.now) c.args.errors.now (printing c.refuse.new.printer.failed (g.S.Sink.taken c.refuse.new.out) (g.S.Sink.faults c.refuse.new.out)) in
-    unopened g.Y.Arm.Pass.Pass.seen g.B.Book.seen c.args.plan.now c.args.run.now first last c.in-Err.fault c.refuse.result (record { stops = stopped; opens = c.open_passes.ensures.data; clock = refl; errors = refl }) c.refuse.ensures
+    unopened g.Y.Arm.Pass.Pass.seen g.B.Book.seen c.args.plan.now c.args.run.now first last c.in-Err.fault c.refuse.result (record {
+      stops = stopped;
+      opens = c.open_passes.ensures.data;
+      clock = refl;
+      errors = refl;
+      cause = record {
+        failed = λ store is. c.open_passes.ensures.cause.failed store (c.in-Err.is ∙ is);
+        quiet = λ other. c.open_passes.ensures.cause.quiet (λ store is. other store (sym c.in-Err.is ∙ is));
+        willing = λ store w is. c.open_passes.ensures.cause.willing store w (c.in-Err.is ∙ is);
+      };
+    }) c.refuse.ensures
 
 pub returns-in-Err-clause-yard_cause : goal.returns-in-Err-clause-yard_cause
 returns-in-Err-clause-yard_cause g c =

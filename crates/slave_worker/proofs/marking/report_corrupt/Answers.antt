@@ -1,9 +1,10 @@
-use Rattle.std.proofs.Common.{◌<◌, length, ap, arith, List}
+use Rattle.std.proofs.Common.{ℕ, ◌<◌, length, ap, arith, List, [], ◌∷◌, ◌+◌}
 use Rattle.block_verdict.specs.declared.finding.Finding.{Finding}
 use Rattle.claim_table.specs.Seats.{view_of}
 use Rattle.block_ops.specs.Runs.{held_run}
 use Rattle.slave_worker.proofs.Lookings.{few_found}
 use Rattle.slave_worker.proofs.Markings.{IsMet, has_marked, marked_refused, met_here, not_here, refused_long, refused_made, reported_more, room_more, told_next}
+use Rattle.slave_worker.proofs.Refusals.{answered_either, refuses_record}
 use Rattle.slave_worker.proofs.marking.report_corrupt.Given.{Over}
 use Rattle.slave_worker.proofs.marking.report_corrupt.Goals as goal
 use Rattle.slave_worker.proofs.marking.report_corrupt.Goals.{In-Some}
@@ -98,3 +99,9 @@ loop-at-preserved g c =
           l.invariant.so met c.push.ensures (used.1, (view_of l.seat).gave, used.3, used.4.0.2) c.in-Ok.ensures.first c.in-Ok.ensures.marked.0 c.in-Ok.ensures.marked.1 c.in-Ok.ensures.holds c.in-Ok.ensures.fits;
       goes_on = λ some. (used.1, (view_of l.seat).gave, used.3, used.4.0.2);
     }
+
+pub returns-in-Err-clause-fault : goal.returns-in-Err-clause-fault
+returns-in-Err-clause-fault g c =
+    let used = c.in-Err.ensures.cause in
+    let l = c.loop-at in
+    answered_either (view_of l.seat) (view_of c.make_bad.new.seat) [] ((l.run.first.0 + l.at) ∷ []) _ _ c.in-Err.fault used.0 used.1 c.in-Err.ensures.refused c.in-Err.ensures.shut used.2 used.3 (refuses_record ℕ used.0 used.1 c.in-Err.fault used.4.0)

@@ -48,6 +48,7 @@ returns-in-Claimed-clause-did g c =
       c.hold-room.ensures.clock,
       c.hold-room.ensures.time,
       (λ fits. act_clean c.args.rules.now c.args.store.now did.0 c.args.turn.now entries made answered did.1 did.2 (c.hold-room.ensures.sound (subst Fitted (sym only.made) fits))),
+      c.hold-room.ensures.still,
     )
 
 pub returns-in-Busy-clause-free : goal.returns-in-Busy-clause-free
@@ -75,6 +76,7 @@ returns-in-Busy-clause-did g c =
       ticked_none (g.C.Clock.seen c.args.clock.now),
       (λ called. cc),
       (λ fits. refl),
+      (λ still called. cc),
     )
 
 pub returns-in-BadBlock-clause-free : goal.returns-in-BadBlock-clause-free
@@ -102,4 +104,5 @@ returns-in-BadBlock-clause-did g c =
       ticked_none (g.C.Clock.seen c.args.clock.now),
       (λ called. cc),
       (λ fits. refl),
+      (λ still called. cc),
     )

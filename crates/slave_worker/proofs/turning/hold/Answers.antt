@@ -10,6 +10,7 @@ use Rattle.slave_worker.specs.Dids.{done_of, fault_found, first_fault}
 use Rattle.slave_worker.specs.Looks.{corrupt_run, started}
 use Rattle.slave_worker.specs.Standings.{Changed, WasAnswered}
 use Rattle.slave_worker.proofs.Holdings.{called_same, clock_twice, did_held, has_called_same, held_all, held_answered, held_findings, held_gave, held_room, held_tally, held_view, none_found, operated_of, released_view, reported_of, reports_of, started_so}
+use Rattle.slave_worker.proofs.Stills.{timed_still}
 use Rattle.slave_worker.proofs.turning.hold.Goals as goal
 
 pub operate-operated-requires-clause-clean : goal.operate-operated-requires-clause-clean
@@ -124,6 +125,25 @@ returns-clause-time g c =
     let reports = reports_of c.args.rules.now c.args.store.now c.args.turn.now c.args.held.entries.items c.operate-operated.result.first c.operate-operated.result.again c.operate-operated.result.put (corrupt_run c.args.turn.now.block.0 c.operate-operated.result.held.entries.items c.operate-operated.new.verdicts) c.report_corrupt-held.result.1 c.operate-operated.result.fault c.report_corrupt-held.result.2 (view_of c.args.seat.now) (view_of c.operate-operated.new.seat) (view_of c.report_corrupt-held.new.seat) made op rep c.reporting.ensures refl c.reporting-2.ensures in
     let same = has_called_same c.operate-operated.result.first c.operate-operated.result.again c.operate-operated.result.put c.report_corrupt-held.result.1 (length c.args.held.entries.items) c.args.turn.now.read made reports in
     λ called. c.timed-timed.ensures.after (started_so (has_called (done_of (length c.args.held.entries.items) c.args.turn.now.read c.operate-operated.result.first c.operate-operated.result.put c.operate-operated.result.again)) (has_called made) (started c.operate-operated.new.watch) same c.operate-operated.ensures.watch called)
+
+pub returns-clause-still : goal.returns-clause-still
+returns-clause-still g c =
+    let op = operated_of c.args.rules.now c.args.store.now c.args.turn.now c.args.held.entries.items c.operate-operated.result.first c.operate-operated.result.again c.operate-operated.result.put c.operate-operated.result.fault (view_of c.args.seat.now) (view_of c.operate-operated.new.seat) c.args.held.first (λ (b : BlockNo). corrupt_run b.0 c.operate-operated.result.held.entries.items c.operate-operated.new.verdicts) c.requires.turn.0 c.requires.turn.1 c.operate-operated.ensures.follows c.operate-operated.ensures.changed c.operate-operated.ensures.corrupt c.operate-operated.ensures.found c.operate-operated.ensures.refused c.operate-operated.ensures.fault c.operate-operated.ensures.goes_on in
+    let block_is = c.operate-operated.ensures.first ∙ c.requires.turn.0 in
+    let rep = reported_of c.args.turn.now c.report_corrupt-held.result.1 c.report_corrupt-held.result.2 (view_of c.operate-operated.new.seat) (view_of c.report_corrupt-held.new.seat) c.operate-operated.result.held.first (λ (b : BlockNo). corrupt_run b.0 c.operate-operated.result.held.entries.items c.operate-operated.new.verdicts) block_is c.report_corrupt-held.ensures.many c.report_corrupt-held.ensures.changed c.report_corrupt-held.ensures.none c.report_corrupt-held.ensures.fault c.report_corrupt-held.ensures.some c.report_corrupt-held.ensures.goes_on in
+    let made : Done = record {
+      many = c.args.turn.now.many;
+      read = c.args.turn.now.read;
+      first = c.reporting.result;
+      put = c.operate-operated.result.put;
+      again = c.reporting-2.result;
+      timed = c.timed-timed.result;
+    } in
+    let reports = reports_of c.args.rules.now c.args.store.now c.args.turn.now c.args.held.entries.items c.operate-operated.result.first c.operate-operated.result.again c.operate-operated.result.put (corrupt_run c.args.turn.now.block.0 c.operate-operated.result.held.entries.items c.operate-operated.new.verdicts) c.report_corrupt-held.result.1 c.operate-operated.result.fault c.report_corrupt-held.result.2 (view_of c.args.seat.now) (view_of c.operate-operated.new.seat) (view_of c.report_corrupt-held.new.seat) made op rep c.reporting.ensures refl c.reporting-2.ensures in
+    let same = has_called_same c.operate-operated.result.first c.operate-operated.result.again c.operate-operated.result.put c.report_corrupt-held.result.1 (length c.args.held.entries.items) c.args.turn.now.read made reports in
+    timed_still made c.operate-operated.new.watch _ _ _ _ (g.C.Clock.seen c.args.clock.now) (g.C.Clock.seen c.operate-operated.new.clock) (g.C.Clock.seen c.timed-timed.new.clock) c.operate-operated.ensures.clock c.timed-timed.ensures.clock
+    (λ called. started_so (has_called (done_of (length c.args.held.entries.items) c.args.turn.now.read c.operate-operated.result.first c.operate-operated.result.put c.operate-operated.result.again)) (has_called made) (started c.operate-operated.new.watch) same c.operate-operated.ensures.watch called)
+    c.timed-timed.ensures.after c.timed-timed.ensures.before (λ still. c.operate-operated.ensures.at still tt)
 
 pub returns-clause-fault : goal.returns-clause-fault
 returns-clause-fault g c =

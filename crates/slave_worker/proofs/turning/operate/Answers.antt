@@ -15,6 +15,7 @@ use Rattle.slave_worker.specs.Looks.{corrupt_run, forbids, found_by, started}
 use Rattle.slave_worker.specs.Standings.{Ticked}
 use Rattle.slave_worker.proofs.Operatings.{few_by, found_judged, many_there, none_forbidden, quiet_first, rules_read, rules_wrote}
 use Rattle.slave_worker.proofs.Puttings.{calls_add, calls_as, ticked_add}
+use Rattle.slave_worker.proofs.Stills.{started_then}
 use Rattle.slave_worker.proofs.turning.operate.Given.{Over}
 use Rattle.slave_worker.proofs.turning.operate.Goals as goal
 use Rattle.slave_worker.proofs.turning.operate.Goals.{After-second_look-again, then-read-via-then-read, then-read-via-else-read+then-forbids}
@@ -134,3 +135,12 @@ returns-clause-sound g c fitted =
     let there : Fitted w.made = subst (λ (m : Made). Fitted m) (sym c.put-held.ensures.changed.2.made) fitted in
     let none : corrupt_in c.second_look-again.result ≡ 0 = c.second_look-again.ensures.clean w c.put-held.ensures.has there in
     omega (arith, (none_forbidden c.first_look-first.result (allowed g a)).1, none)
+
+pub returns-clause-at : goal.returns-clause-at
+returns-clause-at g c still was =
+    let one = g.C.Clock.seen c.args.clock.now in
+    let two = g.C.Clock.seen c.first_look-first.new.clock in
+    let three = g.C.Clock.seen c.put-held.new.clock in
+    let ticked = c.first_look-first.ensures.clock c.requires.watch in
+    let later = started_then _ _ two three c.first_look-first.new.watch c.put-held.new.watch c.second_look-again.new.watch c.put-held.ensures.clock c.put-held.ensures.at c.second_look-again.ensures.at in
+    started_then _ _ one two c.args.watch.now c.first_look-first.new.watch c.second_look-again.new.watch ticked c.first_look-first.ensures.at later still was

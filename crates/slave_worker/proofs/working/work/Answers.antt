@@ -1,5 +1,5 @@
-use Rattle.std.proofs.Common.{◌≡◌, ℕ, ◌+◌, ◌*◌, ◌≤◌, ◌∙◌, refl, sym, ap, subst, arith, List, [], ◌∷◌, length, nat_eq}
-use Rattle.error_limit.specs.Seats.{last_of, notes_of}
+use Rattle.std.proofs.Common.{◌≡◌, ℕ, ◌+◌, ◌*◌, ◌<◌, ◌≤◌, ◌∙◌, refl, sym, ap, subst, arith, List, [], ◌∷◌, length, nat_eq}
+use Rattle.error_limit.specs.Seats.{answers_of, last_of, notes_of}
 use Rattle.claim_table.specs.Seats.{view_of}
 use Rattle.workload_gen.specs.Turns.{Drawing, drawn}
 use Rattle.workload_gen.specs.declared.turn.Turn.{Turn}
@@ -9,6 +9,7 @@ use Rattle.slave_worker.specs.declared.did.Rules.{Rules}
 use Rattle.slave_worker.specs.declared.did.WorkEnd.TheVariants.{TimeUp, TurnsMade}
 use Rattle.slave_worker.specs.Works.{HasWorked}
 use Rattle.slave_worker.proofs.Going.{HasTurned, Turned, bytes_enough, ends_in_time, ends_made, ends_with, few_more, goes_on, less_than_last, none_drawn, none_turned, not_last, run_of, store_of, tally_more, turned_look}
+use Rattle.slave_worker.proofs.Notings.{went_none as none_noted}
 use Rattle.slave_worker.proofs.working.work.Goals as goal
 
 pub loop-number-init : goal.loop-number-init
@@ -29,7 +30,7 @@ loop-number-init g c =
         findings = omega (arith, ap length c.requires.lists.1);
         room = refl;
       };
-      turned = ([], refl, subst (λ (l : List Turn). Turned c.rules_of-rules.result c.args.store.now l 0 start start []) (sym (none_drawn c.args.draw.now _ c.requires.draw)) (none_turned c.rules_of-rules.result c.args.store.now start));
+      turned = ([], refl, subst (λ (l : List Turn). Turned c.rules_of-rules.result c.args.store.now l 0 start start []) (sym (none_drawn c.args.draw.now _ c.requires.draw)) (none_turned c.rules_of-rules.result c.args.store.now start), none_noted c.rules_of-rules.result.limit (0 < c.args.run.now.turns) (answers_of c.args.error_seat.now));
     }
 
 pub returns-then-last-rules-clause-worked : goal.returns-then-last-rules-clause-worked
@@ -38,10 +39,10 @@ returns-then-last-rules-clause-worked g c =
     let then = standing (view_of c.loop-number.seat) c.loop-number.tally (g.A.Arm.seen c.loop-number.arm) (notes_of c.loop-number.error_seat) (g.C.Clock.seen c.loop-number.clock) in
     let after = standing (view_of c.loop-number.seat) c.loop-number.tally (g.A.Arm.seen c.loop-number.arm) (notes_of c.loop-number.error_seat) (g.C.Clock.seen c.now-last.new.self) in
     let turned = c.loop-number.invariant.turned in
-    subst (λ (rules : Rules). HasWorked rules c.args.store.now c.args.run.now.turns (drawn c.loop-number.draw) before after (last_of c.loop-number.error_seat) (TimeUp c.now-last.result)) c.rules_of-rules.ensures
-    (ends_in_time c.rules_of-rules.result c.args.store.now (drawn c.loop-number.draw) c.loop-number.number c.args.run.now.turns (last_of c.loop-number.error_seat) c.now-last.result before after turned.0 turned.1 c.loop-number-test.true
+    subst (λ (rules : Rules). HasWorked rules c.args.store.now c.args.run.now.turns (drawn c.loop-number.draw) before after (answers_of c.loop-number.error_seat) (TimeUp c.now-last.result)) c.rules_of-rules.ensures
+    (ends_in_time c.rules_of-rules.result c.args.store.now (drawn c.loop-number.draw) c.loop-number.number c.args.run.now.turns c.now-last.result before after turned.0 (answers_of c.loop-number.error_seat) turned.1 c.loop-number-test.true
     (turned_look c.rules_of-rules.result c.args.store.now (drawn c.loop-number.draw) c.loop-number.number before then turned.0 (g.C.Clock.seen c.now-last.new.self) c.now-last.result turned.2 c.now-last.ensures.looked)
-    c.now-last.ensures.looked.last c.if-last-rules.true)
+    turned.3 c.now-last.ensures.looked.last c.if-last-rules.true)
 
 pub take_turn-left-requires-clause-size : goal.take_turn-left-requires-clause-size
 take_turn-left-requires-clause-size g c κs within =
@@ -63,12 +64,13 @@ returns-in-Some-clause-worked g c =
     let after = standing (view_of c.take_turn-left.new.seat) c.take_turn-left.new.tally (g.A.Arm.seen c.take_turn-left.new.arm) (notes_of c.take_turn-left.new.error_seat) (g.C.Clock.seen c.take_turn-left.new.clock) in
     let turned = c.loop-number.invariant.turned in
     let took = c.take_turn-left.ensures.did in
-    let last = last_of c.take_turn-left.new.error_seat in
-    subst (λ (l : List Turn). HasWorked (rules_of c.args.plan.now c.args.run.now c.args.worker.now c.args.start) c.args.store.now c.args.run.now.turns l before after last c.in-Some.end) (sym c.next-turn.ensures.drawn)
-    (subst (λ (rules : Rules). HasWorked rules c.args.store.now c.args.run.now.turns (c.next-turn.result ∷ drawn c.loop-number.draw) before after last c.in-Some.end) c.rules_of-rules.ensures
-    (ends_with c.rules_of-rules.result c.args.store.now (drawn c.loop-number.draw) c.next-turn.result c.loop-number.number c.args.run.now.turns last before middle after took.0 turned.0 c.take_turn-left.result.1 (nat_eq (c.loop-number.number + 1) c.args.run.now.turns) c.in-Some.end turned.1 c.loop-number-test.true
+    let answers = answers_of c.take_turn-left.new.error_seat in
+    subst (λ (l : List Turn). HasWorked (rules_of c.args.plan.now c.args.run.now c.args.worker.now c.args.start) c.args.store.now c.args.run.now.turns l before after answers c.in-Some.end) (sym c.next-turn.ensures.drawn)
+    (subst (λ (rules : Rules). HasWorked rules c.args.store.now c.args.run.now.turns (c.next-turn.result ∷ drawn c.loop-number.draw) before after answers c.in-Some.end) c.rules_of-rules.ensures
+    (ends_with c.rules_of-rules.result c.args.store.now (drawn c.loop-number.draw) c.next-turn.result c.loop-number.number c.args.run.now.turns before middle after took.0 turned.0 (answers_of c.loop-number.error_seat) answers c.take_turn-left.result.1 (nat_eq (c.loop-number.number + 1) c.args.run.now.turns) c.in-Some.end turned.1 c.loop-number-test.true
     (turned_look c.rules_of-rules.result c.args.store.now (drawn c.loop-number.draw) c.loop-number.number before then turned.0 (g.C.Clock.seen c.now-last.new.self) c.now-last.result turned.2 c.now-last.ensures.looked)
-    (took.1, took.2, took.3, took.4, took.7)
+    turned.3
+    (took.1, took.2, took.3, took.4, took.7, took.8, took.9)
     (sym c.ends_work.ensures ∙ c.in-Some.is) (not_last c.loop-number.number c.args.run.now.turns c.loop-number-test.true)))
 
 pub loop-number-preserved : goal.loop-number-preserved
@@ -81,6 +83,7 @@ loop-number-preserved g c =
     let turned = i.turned in
     let took = c.take_turn-left.ensures.did in
     let last = last_of c.take_turn-left.new.error_seat in
+    let answers = answers_of c.take_turn-left.new.error_seat in
     let ends = c.take_turn-left.ensures in
     let is_none = sym c.ends_work.ensures ∙ c.in_default.is in
     let size = store_of c.args.plan.now c.args.run.now c.args.worker.now c.args.store.now c.requires.plan in
@@ -94,11 +97,12 @@ loop-number-preserved g c =
       drawn_so = omega (arith, c.next-turn.ensures.turns, i.drawn_so);
       few = λ lt. few_more c.rules_of-rules.result took.0 (view_of c.take_turn-left.new.seat) last (notes_of c.loop-number.error_seat) (notes_of c.take_turn-left.new.error_seat) c.take_turn-left.result.1 (nat_eq (c.loop-number.number + 1) c.args.run.now.turns) is_none took.4 took.6 took.3.notes (less_than_last c.loop-number.number c.args.run.now.turns lt) (i.few c.loop-number-test.true);
       tally_on = tally_more c.rules_of-rules.result c.args.store.now took.0 c.loop-number.number (notes_of c.loop-number.error_seat) (notes_of c.take_turn-left.new.error_seat) c.args.tally.now.finding_room c.loop-number.tally c.take_turn-left.new.tally c.turns_stay_small.ensures.done c.turns_stay_small.ensures.refusal c.rows_fit.ensures size.few_bytes (subst (λ (t : Turn). t.many ≤ 64) (sym took.1) c.next-turn.ensures.many.at_most) took.2 took.3.tally took.3.notes i.tally_on;
-      turned = subst (λ (l : List Turn). HasTurned c.rules_of-rules.result c.args.store.now (c.loop-number.number + 1) l before after) (sym c.next-turn.ensures.drawn)
-          (goes_on c.rules_of-rules.result c.args.store.now (drawn c.loop-number.draw) c.next-turn.result c.loop-number.number last before middle after took.0 turned.0 c.take_turn-left.result.1 (nat_eq (c.loop-number.number + 1) c.args.run.now.turns) turned.1
+      turned = subst (λ (l : List Turn). HasTurned c.rules_of-rules.result c.args.store.now (c.loop-number.number + 1) c.args.run.now.turns l before after answers) (sym c.next-turn.ensures.drawn)
+          (goes_on c.rules_of-rules.result c.args.store.now (drawn c.loop-number.draw) c.next-turn.result c.loop-number.number c.args.run.now.turns before middle after took.0 turned.0 (answers_of c.loop-number.error_seat) answers c.take_turn-left.result.1 (nat_eq (c.loop-number.number + 1) c.args.run.now.turns) c.loop-number-test.true turned.1
           (turned_look c.rules_of-rules.result c.args.store.now (drawn c.loop-number.draw) c.loop-number.number before then turned.0 (g.C.Clock.seen c.now-last.new.self) c.now-last.result turned.2 c.now-last.ensures.looked)
-          (took.1, took.2, took.3, took.4, took.7)
-          is_none);
+          turned.3
+          (took.1, took.2, took.3, took.4, took.7, took.8, took.9)
+          is_none (less_than_last c.loop-number.number c.args.run.now.turns));
     }
 
 pub returns-clause-worked : goal.returns-clause-worked
@@ -108,5 +112,5 @@ returns-clause-worked g c =
     let turned = c.loop-number.invariant.turned in
     let all : c.loop-number.number ≡ c.args.run.now.turns = omega arith in
     let turned_all = subst (λ (n : ℕ). Turned c.rules_of-rules.result c.args.store.now (drawn c.loop-number.draw) n before after turned.0) all turned.2 in
-    subst (λ (rules : Rules). HasWorked rules c.args.store.now c.args.run.now.turns (drawn c.loop-number.draw) before after (last_of c.loop-number.error_seat) TurnsMade) c.rules_of-rules.ensures
-    (ends_made c.rules_of-rules.result c.args.store.now (drawn c.loop-number.draw) c.args.run.now.turns (last_of c.loop-number.error_seat) before after turned.0 (turned.1 ∙ all) turned_all)
+    subst (λ (rules : Rules). HasWorked rules c.args.store.now c.args.run.now.turns (drawn c.loop-number.draw) before after (answers_of c.loop-number.error_seat) TurnsMade) c.rules_of-rules.ensures
+    (ends_made c.rules_of-rules.result c.args.store.now (drawn c.loop-number.draw) c.args.run.now.turns before after turned.0 (answers_of c.loop-number.error_seat) (c.loop-number.number < c.args.run.now.turns) (turned.1 ∙ all) turned_all turned.3)

@@ -1,5 +1,5 @@
 use Rattle.std.proofs.Common.{◌≡◌, ◌<◌, [], length}
-use Rattle.error_limit.specs.Seats.{IsSeatOf as IsErrorSeatOf, notes_of}
+use Rattle.error_limit.specs.Seats.{IsSeatOf as IsErrorSeatOf, answers_of, notes_of}
 use Rattle.claim_table.specs.Seats.{view_of, IsSeatOf}
 use Rattle.workload_gen.specs.Turns.{drawn}
 use Rattle.slave_worker.specs.Standings.{IsFree, standing}
@@ -17,7 +17,8 @@ invariant-loop-number g l = record {
   drawn_so : l.draw.turns ≡ l.number;
   few : l.number < l.run.turns → notes_of l.error_seat < l.rules.limit;
   tally_on : TallyGoesOn l.rules.intervals l.number (notes_of l.error_seat) l.initial.tally.finding_room l.tally;
-  turned : HasTurned l.rules l.store l.number (drawn l.draw)
+  turned : HasTurned l.rules l.store l.number l.run.turns (drawn l.draw)
       (standing (view_of l.initial.seat) l.initial.tally (g.A.Arm.seen l.initial.arm) (notes_of l.initial.error_seat) (g.C.Clock.seen l.initial.clock))
-      (standing (view_of l.seat) l.tally (g.A.Arm.seen l.arm) (notes_of l.error_seat) (g.C.Clock.seen l.clock));
+      (standing (view_of l.seat) l.tally (g.A.Arm.seen l.arm) (notes_of l.error_seat) (g.C.Clock.seen l.clock))
+      (answers_of l.error_seat);
 }

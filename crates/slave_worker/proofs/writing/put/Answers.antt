@@ -12,6 +12,7 @@ use Rattle.slave_worker.specs.Looks.{first_settled}
 use Rattle.slave_worker.specs.Standings.{Changed}
 use Rattle.slave_worker.proofs.Lookings.{passes_of}
 use Rattle.slave_worker.proofs.Puttings.{Begins, begins, changed_as, changed_once, changed_then, changed_twice, falling_as, has_after, has_same, live_begun, live_either, live_ended, live_since_begun, many_either, over_unended, over_where, unended_either, unended_made, written_fit}
+use Rattle.slave_worker.proofs.Refusals.{answered, answered_either, refuses_flush, refuses_queue, refuses_record}
 use Rattle.slave_worker.proofs.writing.put.Given.{Over}
 use Rattle.slave_worker.proofs.writing.put.Goals as goal
 use Rattle.slave_worker.proofs.writing.put.Goals.{In-Ok-answer, In-Ok-confirm_begun}
@@ -177,3 +178,19 @@ pub returns-in-Ok-end_written-clause-goes_on : goal.returns-in-Ok-end_written-cl
 returns-in-Ok-end_written-clause-goes_on g c none =
     let used = c.in-Ok-end_written.ensures.cause in
     (used.1, (view_of c.confirm_begun.new.seat).gave, used.3, used.4.0.2)
+
+pub returns-in-Err-clause-fault : goal.returns-in-Err-clause-fault
+returns-in-Err-clause-fault g c =
+    let used = c.in-Err.ensures.cause in
+    answered (view_of c.args.seat.now) (view_of c.queue_held.new.seat) [] [] c.in-Err.fault used.0 used.1 c.in-Err.ensures.used c.in-Err.ensures.shut used.2 used.3 (refuses_queue _ c.args.held.entries.items used.0 used.1 c.in-Err.fault used.4.0)
+
+pub returns-in-Err-confirm_begun-clause-fault : goal.returns-in-Err-confirm_begun-clause-fault
+returns-in-Err-confirm_begun-clause-fault g c =
+    let used = c.in-Err-confirm_begun.ensures.cause in
+    answered (view_of c.queue_held.new.seat) (view_of c.confirm_begun.new.seat) [] [] c.in-Err-confirm_begun.fault used.0 used.1 c.in-Err-confirm_begun.ensures.used c.in-Err-confirm_begun.ensures.shut used.2 used.3 (refuses_flush ℕ used.0 used.1 c.in-Err-confirm_begun.fault used.4)
+
+pub returns-in-Err-end_written-clause-fault : goal.returns-in-Err-end_written-clause-fault
+returns-in-Err-end_written-clause-fault g c =
+    let used = c.in-Err-end_written.ensures.cause in
+    let written = c.in-Ok-answer.written in
+    answered_either (view_of c.confirm_begun.new.seat) (view_of c.end_written.new.seat) (falling written.first (length written.entries)) [] _ _ c.in-Err-end_written.fault used.0 used.1 c.in-Err-end_written.ensures.refused c.in-Err-end_written.ensures.shut used.2 used.3 (refuses_record ℕ used.0 used.1 c.in-Err-end_written.fault used.4.0)

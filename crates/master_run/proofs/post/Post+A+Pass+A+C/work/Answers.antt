@@ -1,7 +1,7 @@
 use Rattle.std.proofs.Common.{◌^◌, ap, length}
 use Rattle.claim_table.specs.Seats.{made_in, view_of}
 use Rattle.claim_table.specs.Views.{fresh}
-use Rattle.error_limit.specs.Seats.{last_of, notes_of}
+use Rattle.error_limit.specs.Seats.{answers_of, notes_of}
 use Rattle.workload_gen.specs.Task.{task_of}
 use Rattle.workload_gen.specs.Turns.{drawn, turns_of}
 use Rattle.slave_worker.specs.Ends.{rules_of}
@@ -26,7 +26,7 @@ returns-clause-did g c =
           (standing (view_of post.seat) post.tally arm (notes_of post.error_seat) clock)
           (standing (fresh made (2 ^ 32)) post.tally (fresh_arm arm.sure) 0 clock)
           (standing (view_of c.work-self.new.seat) c.work-self.new.tally (g.A.Arm.seen c.work-self.new.arm) (notes_of c.work-self.new.error_seat) (g.C.Clock.seen c.work-self.new.clock))
-          (last_of c.work-self.new.error_seat) c.work-self.result
+          (answers_of c.work-self.new.error_seat) c.work-self.result
           (drawn_of post.draw c.work-self.new.draw task c.requires.ready.draw c.work-self.ensures.task)
           (standing_as (view_of post.seat) (fresh made (2 ^ 32)) post.tally arm (fresh_arm arm.sure) (notes_of post.error_seat) clock c.requires.ready.seat.1 c.requires.ready.arm (ap length c.requires.ready.error_seat.1))
           c.work-self.ensures.worked;
