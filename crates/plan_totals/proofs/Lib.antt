@@ -1,0 +1,12 @@
+pub mod Zips
+pub mod Moves
+pub mod Steps
+pub mod Opening
+pub mod Books
+pub mod Running
+pub mod Runs
+pub mod Texts
+pub mod Clean
+pub mod Wholes
+pub mod Quiet
+pub mod Found
