@@ -33,7 +33,7 @@ use Rattle.still_plan.proofs.Frames.{Differs, apart_first, not_among, among_firs
 pub path_rose : (a b : YardSeen) (path : List ℕ) (looks : List Look) → CountsRose a b path looks → PathRose a b path looks
 path_rose a b path looks p = record { reads = p.reads; rose = p.rose; kept = λ none. p.kept none path; sure = λ s. p.sure s path }
 
-rose_later : (a b c : YardSeen) (path : List ℕ) (looks : List Look) → CountsStay b c path → PathRose a b path looks → PathRose a c path looks
+pub rose_later : (a b c : YardSeen) (path : List ℕ) (looks : List Look) → CountsStay b c path → PathRose a b path looks → PathRose a c path looks
 rose_later a b c path looks s p = record {
   reads = subst (λ (n : ℕ). Counted (count_by is_seen looks) (good_reads a.counts path) n) (sym s.reads) p.reads;
   rose = subst (λ (n : ℕ). min (arm_faults a.counts path + count_by is_unread looks) (2 ^ 64 - 1) ≤ n) (sym s.faults) p.rose;
@@ -41,10 +41,10 @@ rose_later a b c path looks s p = record {
   sure = λ t. s.faults ∙ p.sure t;
 }
 
-rose_by_earlier : (a b c : YardSeen) (path : List ℕ) (n : ℕ) → CountsStay a b path → RoseBy b c path n → RoseBy a c path n
+pub rose_by_earlier : (a b c : YardSeen) (path : List ℕ) (n : ℕ) → CountsStay a b path → RoseBy b c path n → RoseBy a c path n
 rose_by_earlier a b c path n s p = subst (λ (m : ℕ). min (m + n) (2 ^ 64 - 1) ≤ arm_faults c.counts path) s.faults p
 
-rose_earlier : (a b c : YardSeen) (path : List ℕ) (looks : List Look) → b.tells ≡ a.tells → CountsStay a b path → PathRose b c path looks → PathRose a c path looks
+pub rose_earlier : (a b c : YardSeen) (path : List ℕ) (looks : List Look) → b.tells ≡ a.tells → CountsStay a b path → PathRose b c path looks → PathRose a c path looks
 rose_earlier a b c path looks t s p = record {
   reads = subst (λ (n : ℕ). Counted (count_by is_seen looks) n (good_reads c.counts path)) s.reads p.reads;
   rose = rose_by_earlier a b c path (count_by is_unread looks) s p.rose;
@@ -61,7 +61,7 @@ pub record HasPath (a b : YardSeen) (path : List ℕ) : Type 0 where
   pub kept : kept_at b.contents path ≡ kept_at a.contents path
   pub counts : CountsStay a b path
 
-passes_earlier : (a b : YardSeen) (store : StorePlan) (passes : List PassSeen) → HasPath a b store.path → ArePassesOf b store passes → ArePassesOf a store passes
+pub passes_earlier : (a b : YardSeen) (store : StorePlan) (passes : List PassSeen) → HasPath a b store.path → ArePassesOf b store passes → ArePassesOf a store passes
 passes_earlier a b store passes h p = record {
   blocks = p.blocks;
   told = λ keeps.
@@ -144,7 +144,7 @@ stop_worse a c store found text first result (not_begun t s) = ended_worse first
 stop_worse a c store found text first result (begun n passes looks f g r t s) = ended_worse first result s
 
 -- ---- one store in front of others
-left_then : (a b c : YardSeen) (path : List ℕ) → IsLeft a b path → IsLeft b c path → IsLeft a c path
+pub left_then : (a b c : YardSeen) (path : List ℕ) → IsLeft a b path → IsLeft b c path → IsLeft a c path
 left_then a b c path p q = record { kept = q.kept ∙ p.kept; counts = counts_then a b c path p.counts q.counts }
 
 pub left_by : (a b : YardSeen) (store : StorePlan) → BlocksStay store a.contents b.contents → ((path : List ℕ) → (path ≡ store.path → ⊥) → CountsStay a b path) → (path : List ℕ) → (path ≡ store.path → ⊥) → IsLeft a b path
@@ -160,11 +160,11 @@ end_here a c store found stores more text result p left =
 pub end_none : (a c : YardSeen) (stores : List StorePlan) (found : List Recovered) → stores ≡ [] → found ≡ [] → StoresEnd a c stores found [] status.Good
 end_none a c stores found e f = subst (λ (s : List StorePlan). StoresEnd a c s found [] status.Good) (sym e) (subst (λ (r : List Recovered). StoresEnd a c [] r [] status.Good) (sym f) (all_verified [] tt refl refl))
 
-have_taken : (a b : YardSeen) (stores : List StorePlan) (n : ℕ) → HavePaths a b stores → HavePaths a b (take n stores)
+pub have_taken : (a b : YardSeen) (stores : List StorePlan) (n : ℕ) → HavePaths a b stores → HavePaths a b (take n stores)
 unfolding HavePaths
 have_taken a b stores n h = All-take (λ (s : StorePlan). HasPath a b s.path) n stores h
 
-at_place : (a b : YardSeen) (stores : List StorePlan) (n : ℕ) (store : StorePlan) → HavePaths a b stores → slice_get stores n ≡ Some store → HasPath a b store.path
+pub at_place : (a b : YardSeen) (stores : List StorePlan) (n : ℕ) (store : StorePlan) → HavePaths a b stores → slice_get stores n ≡ Some store → HasPath a b store.path
 unfolding HavePaths
 at_place a b stores n store h is =
     let within = slice_get_within stores n store is in
@@ -239,7 +239,7 @@ said_stop a c stores founds store found rest more result p q e f left v = (
   subst (λ (s : List StorePlan). StoresEnd a c s founds v.0 result) (sym e) (subst (λ (m : List Recovered). StoresEnd a c (store ∷ rest) m v.0 result) (sym f) (end_here a c store found rest more v.0 result v.2 left)),
 )
 
-none_found : (found : List Recovered) → AreFit [] found → found ≡ []
+pub none_found : (found : List Recovered) → AreFit [] found → found ≡ []
 none_found [] fit = refl
 none_found (one ∷ found) fit = absurd fit
 

@@ -18,7 +18,7 @@ use vd_outside::Sink;
 use vd_yard::Yard;
 
 /// Says that a store's journal was recovered.
-fn say_recovered<S: Sink>(
+pub fn say_recovered<S: Sink>(
     alloc: Global,
     store: &StorePlan,
     found: &Recovered,

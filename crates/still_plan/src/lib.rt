@@ -9,5 +9,7 @@ mod lines;
 mod plan;
 mod stores;
 
-pub use lines::say_line;
+pub use journals::say_recovered;
+pub use lines::{refuse, say_line};
 pub use plan::still_stores;
+pub use stores::{status_of, worse};

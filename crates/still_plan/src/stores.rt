@@ -18,7 +18,8 @@ use still_store::{NotVerified, verify_store};
 use vd_outside::Sink;
 use vd_yard::Yard;
 
-fn status_of(counted: &Verified) -> Status
+/// The status of a store that was verified: a failed read comes before a corrupt block.
+pub fn status_of(counted: &Verified) -> Status
     ensures { result ≡ counted_status counted.now }
 {
     if counted.faults != 0 {
@@ -31,7 +32,7 @@ fn status_of(counted: &Verified) -> Status
 }
 
 /// The status of a store that was verified and of those behind it, by what these end with.
-fn worse(first: Status, rest: Status) -> Status
+pub fn worse(first: Status, rest: Status) -> Status
     ensures { result ≡ worse_of first rest }
 {
     match rest {

@@ -10,6 +10,7 @@ use Rattle.std.proofs.lemmas.Option.{slice_get_within, get_or_from_slice_get, sl
 use Rattle.vd_arm.specs.Arm.{PassSeen}
 use Rattle.plan_types.specs.declared.store.StorePlan.{StorePlan}
 use Rattle.vd_yard.specs.Kept.{Kept, kept_at, keep_at, keep_at_here, keep_at_other, keep_at_untold, bytes_at}
+use Rattle.vd_yard.specs.Yard.{Tells}
 use Rattle.vd_yard.specs.Contents.{file_block, AreBlocks, TellFile, told_bytes}
 use Rattle.still_store.specs.Frame.{BlocksStay}
 
@@ -96,3 +97,6 @@ pub blocks_stay : (store : StorePlan) (old mid new : Kept (List ℕ)) (tells : B
 blocks_stay store old mid new tells passes m e blocks tell =
     let whole : new ≡ keep_at tells old store.path (told_bytes passes) = e ∙ ap (λ (k : Kept (List ℕ)). keep_at tells k store.path (told_bytes passes)) m in
     subst (λ (k : Kept (List ℕ)). BlocksStay store old k) (sym whole) (stay_by store old tells passes tells refl blocks tell)
+
+pub told_before : (a b : Tells) → a ≡ b → IsTrue a.keeps_contents → IsTrue b.keeps_contents
+told_before a b e t = subst (λ (s : Tells). IsTrue s.keeps_contents) e t

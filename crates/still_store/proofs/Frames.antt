@@ -8,12 +8,16 @@ use Rattle.vd_yard.specs.Yard.{Tells, YardSeen}
 use Rattle.vd_yard.specs.Contents.{file_block}
 use Rattle.vd_yard.specs.Counts.{Counts, held, add_arm, arm_faults, arm_faults_here, arm_faults_none, good_reads, good_reads_here}
 use Rattle.std.specs.Prelude.{count_by}
-use Rattle.vd_arm.specs.Arm.{ArmSeen, Counted}
+use Rattle.vd_arm.specs.Arm.{ArmSeen, Counted, PassSeen}
+use Rattle.key_state.specs.declared.entry.Entry.{Entry}
+use Rattle.run_report.specs.declared.finding.Verified.{Verified}
+use Rattle.run_report.specs.Says.{Printing}
 use Rattle.vd_yard.specs.Out.{AtArm}
 use Rattle.recover_run.specs.declared.look.Look.{Look}
-use Rattle.recover_run.specs.Looks.{is_seen, is_unread}
+use Rattle.recover_run.specs.Looks.{AreLooks, is_seen, is_unread}
 use Rattle.recover_run.specs.Part.{Called}
-use Rattle.still_store.specs.Verification.{CountsRose}
+use Rattle.still_store.specs.Looking.{Leaves}
+use Rattle.still_store.specs.Verification.{ArePassesOf, CountsRose, StopsReading, counted_of, none_begun, stops_reading}
 use Rattle.still_store.specs.Frame.{Unwritten, JournalsStay, BlocksStay}
 
 unwritten_same : (disk : DiskSeen) → Unwritten disk disk
@@ -126,3 +130,34 @@ counts_rose old new mid path looks a b e k z none sure called =
 pub kept_others : (old mid new : Kept DiskSeen) (tells : Bool) (path : List ℕ) (now : DiskSeen) → mid ≡ old → new ≡ keep_at tells mid path now → (q : List ℕ) → (q ≡ path → ⊥) → kept_at new q ≡ kept_at old q
 kept_others old mid new tells path now m e q other =
     ap (λ (k : Kept DiskSeen). kept_at k q) e ∙ (keep_at_other tells mid path now q other ∙ ap (λ (k : Kept DiskSeen). kept_at k q) m)
+
+-- ---- a store whose passes stay out
+-- A block of an arm that is sure was readable.
+none_unread : (looks : List Look) (a b : ArmSeen) → a.faults ≡ 0 → Called looks a b → IsTrue a.sure → count_by is_unread looks ≡ 0
+none_unread looks a b z called s =
+    let same = called.still s in
+    let rose = called.rose in
+    omega (arith, z, same, rose)
+
+pub leaves_by : (old new : YardSeen) (mid : Counts) (store : StorePlan) (entries : List Entry) (passes : List PassSeen) (looks : List Look) (counted : Verified) (a b : ArmSeen) → mid ≡ old.counts → new.counts ≡ add_arm mid store.path b.faults b.good_reads b.good_writes → a.faults ≡ 0 → a.good_reads ≡ 0
+    → a.sure ≡ old.tells.sure AtArm store.path → ArePassesOf old store passes → AreLooks store.id entries passes looks → counted ≡ counted_of entries looks → Called looks a b → Leaves old new store entries passes looks counted
+leaves_by old new mid store entries passes looks counted a b e k z none sure theirs looked is called = record {
+  theirs = theirs;
+  looked = looked;
+  counts = is;
+  rose = counts_rose old new mid store.path looks a b e k z none sure called;
+  sure = λ s. none_unread looks a b z called (subst (λ (t : Bool). IsTrue t) (sym sure) s);
+}
+
+pub rose_along : (old mid new : YardSeen) (path : List ℕ) (looks : List Look) → new.counts ≡ mid.counts → CountsRose old mid path looks → CountsRose old new path looks
+rose_along old mid new path looks e p = record {
+  reads = subst (λ (c : Counts). Counted (count_by is_seen looks) (good_reads old.counts path) (good_reads c path)) (sym e) p.reads;
+  rose = subst (λ (c : Counts). min (arm_faults old.counts path + count_by is_unread looks) (2 ^ 64 - 1) ≤ arm_faults c path) (sym e) p.rose;
+  kept = λ n q. ap (λ (c : Counts). arm_faults c q) e ∙ p.kept n q;
+  sure = λ s q. ap (λ (c : Counts). arm_faults c q) e ∙ p.sure s q;
+}
+
+pub stops_along : (old mid new : YardSeen) (store : StorePlan) (entries : List Entry) (p q : Printing) → new.counts ≡ mid.counts → StopsReading old mid store entries p q → StopsReading old new store entries p q
+stops_along old mid new store entries p q e (none_begun k) = none_begun (e ∙ k)
+stops_along old mid new store entries p q e (stops_reading n passes looks theirs looked rose ends) =
+    stops_reading n passes looks theirs looked (rose_along old mid new store.path looks e rose) ends

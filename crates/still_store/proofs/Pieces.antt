@@ -1,5 +1,5 @@
 -- A store verified piece by piece.
-use Rattle.std.proofs.Common.{◌≡◌, ℕ, zero, suc, ◌+◌, ◌-◌, ◌^◌, ◌<◌, ◌≤◌, Bool, List, [], ◌∷◌, ◌++◌, length, take, drop, map, get_or, refl, sym, ◌∙◌, ap, subst, arith, append_assoc, min}
+use Rattle.std.proofs.Common.{◌≡◌, ℕ, zero, suc, ◌+◌, ◌-◌, ◌^◌, ◌<◌, ◌≤◌, Bool, IsTrue, List, [], ◌∷◌, ◌++◌, length, take, drop, map, get_or, refl, sym, ◌∙◌, ap, subst, arith, append_assoc, min}
 use Rattle.std.specs.Prelude.{count_by, Some, slice_get, slice_range, cond}
 use Rattle.std.proofs.lemmas.List.{take_more, take_all, append-nil, get_or-take, get_or-drop, length-take-le, length-drop, length-map, length-append, take-map, drop-map}
 use Rattle.std.proofs.Math.Seq.{take-add}
@@ -17,12 +17,13 @@ use Rattle.block_verdict.specs.declared.finding.Finding.{Finding}
 use Rattle.block_verdict.specs.declared.outcome.Verdict.TheVariants as verdict
 use Rattle.recover_run.specs.declared.look.Look.{Look}
 use Rattle.recover_run.specs.declared.look.Look.TheVariants as look
-use Rattle.recover_run.specs.Looks.{AreLooks, LooksAt, findings_from, block_findings, is_seen, is_unread, is_corrupt}
+use Rattle.recover_run.specs.Looks.{AreLooks, LooksAt, findings_from, block_findings, settled_from, is_seen, is_unread, is_corrupt}
 use Rattle.recover_run.specs.Part.{ArePart, Verifies}
-use Rattle.recover_run.proofs.Looking.{count-append, no_looks, no_findings, looks_append, findings_append}
+use Rattle.recover_run.proofs.Looking.{count-append, no_looks, no_findings, looks_append, findings_append, settled_append}
 use Rattle.run_report.specs.declared.finding.Verified.{Verified}
 use Rattle.run_report.specs.Findings.{finding_text, IsPrintable}
 use Rattle.run_report.specs.Says.{Says, Printing, says_along, says_none}
+use Rattle.still_store.specs.Looking.{carried}
 use Rattle.still_store.specs.Findings.{are_corrupt, are_unread, plus, AreSmall}
 use Rattle.still_store.specs.Verification.{findings_text, counted_of, lines_of, is_pending, is_bad}
 
@@ -315,3 +316,19 @@ front_all seen id entries passes looks f g a b many p r q =
     let all : take (length entries) entries ≡ entries = take_all (length entries) entries (omega arith) in
     let each : take (length entries) (map seen passes) ≡ map seen passes = take_all (length entries) (map seen passes) (omega (arith, many)) in
     (length entries, looks, rw (all, each) p, r, subst (λ (es : List Entry). Says a b (lines_of id es looks)) (sym all) q)
+
+-- ---- settled entries
+pub none_settled : [] ≡ settled_from [] []
+unfolding settled_from
+none_settled = refl
+
+carried_all : (collects : Bool) (entries : List Entry) → IsTrue collects → carried collects entries ≡ entries
+carried_all collects entries e = ap (λ (b : Bool). carried b entries) e
+
+pub settled_then : (collects here : Bool) (entries : List Entry) (a b : ℕ) (looks more : List Look) (before now : List Entry) → here ≡ collects → a ≤ b → length looks ≡ length (take a entries) → (IsTrue collects → before ≡ settled_from (take a entries) looks) → now ≡ carried here before ++ settled_from (slice_range entries a b) more
+    → IsTrue collects → now ≡ settled_from (take b entries) (looks ++ more)
+settled_then collects here entries a b looks more before now same le many p q collected =
+    q
+    ∙ (ap (λ (es : List Entry). es ++ settled_from (slice_range entries a b) more) (carried_all here before (same ∙ collected) ∙ p collected)
+    ∙ (sym (settled_append (take a entries) (slice_range entries a b) looks more many)
+    ∙ ap (λ (es : List Entry). settled_from es (looks ++ more)) (sym (piece_behind entries a b le))))

@@ -19,6 +19,16 @@ pub record Keeps (old new : YardSeen) : Type 0 where
   pub willing : IsTrue old.willing → IsTrue new.willing
   pub files : StaysThere old.files new.files
 
+-- the same, but for what is out
+pub record Stays (old new : YardSeen) : Type 0 where
+  pub tells : new.tells ≡ old.tells
+  pub later : old.faults ≤ new.faults
+  pub sources : (path : List ℕ) → source_faults old.counts path ≤ source_faults new.counts path
+  pub arms : (path : List ℕ) → arm_faults old.counts path ≤ arm_faults new.counts path
+  pub writes : (path : List ℕ) → Counted 0 (good_writes old.counts path) (good_writes new.counts path)
+  pub willing : IsTrue old.willing → IsTrue new.willing
+  pub files : StaysThere old.files new.files
+
 -- a disk that was only read: it is as it was, but for its count of faults
 pub record Unwritten (before now : DiskSeen) : Type 0 where
   pub same : now ≡ record before { faults = now.faults }

@@ -2,3 +2,4 @@ pub mod Frame
 pub mod Recovery
 pub mod Findings
 pub mod Verification
+pub mod Looking

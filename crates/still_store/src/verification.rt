@@ -1,20 +1,22 @@
 // Verifying one store.
-ghost use Rattle.std.specs.Prelude.{◌≡◌, ◌≤◌, ◌<◌, ◌+◌, ◌^◌, ◌-◌, min, List, ℕ, Bool, true, IfOk, OnErr, IsErrOf, IsTrue, length, map, take, count_by, slice_get, Some};
+ghost use Rattle.std.specs.Prelude.{◌≡◌, ◌≤◌, ◌<◌, ◌+◌, ◌++◌, ◌^◌, ◌-◌, min, List, ℕ, Bool, true, [], IfOk, OnOk, OnErr, IsErrOf, IsTrue, length, map, take, count_by, slice_get, Some};
 ghost use Rattle.vd_arm.specs.Arm.{PassSeen};
 ghost use Rattle.key_state.specs.Entries.{AreEntries};
 ghost use Rattle.block_verdict.specs.declared.finding.Finding.{Finding as AFinding};
 ghost use Rattle.recover_run.specs.declared.look.Look.{Look as ALook};
-ghost use Rattle.recover_run.specs.Looks.{AreLooks, findings_from, is_unread as is_unread_look};
+ghost use Rattle.recover_run.specs.Looks.{AreLooks, findings_from, settled_from, is_unread as is_unread_look};
 ghost use Rattle.vd_outside.specs.Causes.{Rose};
 ghost use Rattle.vd_yard.specs.Counts.{source_faults, arm_faults, good_reads, good_writes};
 ghost use Rattle.vd_yard.specs.Yard.{HasFiles};
-ghost use Rattle.still_store.specs.Frame.{Keeps, BlocksStay};
+ghost use Rattle.vd_yard.specs.Out.{AtPasses, one_more};
+ghost use Rattle.still_store.specs.Frame.{Keeps, Stays, BlocksStay};
 ghost use Rattle.recover_run.specs.Part.{ArePart, Called};
 ghost use Rattle.run_report.specs.Findings.{IsPrintable};
 ghost use Rattle.run_report.specs.Says.{Says, printing};
 ghost use Rattle.vd_yard.specs.Contents.{AreBlocks};
 ghost use Rattle.still_store.specs.Verification.{findings_text, counted_of, lines_of, store_text, ArePassesOf, CountsRose, CameSoFar, StopsCalling, StopsReading, is_pending as pends, is_bad as is_bad_entry};
 ghost use Rattle.still_store.specs.Findings.{are_corrupt, are_unread, plus, AreSmall};
+ghost use Rattle.still_store.specs.Looking.{Leaves, carried};
 
 use block_verdict::Finding;
 use key_state::Entry;
@@ -131,12 +133,27 @@ fn text_of(alloc: Global, store: &StoreId, found: &[Finding]) -> Result<Text, No
     Ok(text)
 }
 
-/// What a store is verified with: one block's bytes, and the findings and entries of one piece.
+/// What a store is verified with: one block's bytes, the findings of one piece, and settled entries. These are those of all pieces so far
+/// where they are collected, else those of one piece.
 #[derive(Drop)]
 struct Room {
     block: Vec<u8>,
     found: Vec<Finding>,
     settled: Vec<Entry>,
+    collects: bool,
+}
+
+/// Leaves nothing of the pieces before in the room, but settled entries that are collected.
+fn begin_piece(room: &mut Room)
+    ensures found { room.new.found.items ≡ [] }
+    ensures settled { room.new.settled.items ≡ carried room.old.collects room.old.settled.items }
+    ensures size { length room.new.block.items ≡ length room.old.block.items }
+    ensures collects { room.new.collects ≡ room.old.collects }
+{
+    room.found.clear();
+    if !room.collects {
+        room.settled.clear();
+    }
 }
 
 /// What a piece counts.
@@ -190,14 +207,15 @@ fn verify_piece<A: Arm, S: Sink>(
         × (counted ≡ counted_of entries.now looks)
         × Called looks (A.seen arm.old) (A.seen arm.new)
         × Says (printing printer.old.failed (S.taken out.old) (S.faults out.old)) (printing printer.new.failed (S.taken out.new) (S.faults out.new))
-        (findings_text store.now (findings_from first entries.now looks))) }
+        (findings_text store.now (findings_from first entries.now looks))
+        × (room.new.settled.items ≡ carried room.old.collects room.old.settled.items ++ settled_from entries.now looks)) }
+    ensures collects { room.new.collects ≡ room.old.collects }
     ensures refused { OnErr result ((out.new ≡ out.old) × (printer.new ≡ printer.old)) }
     ensures later { (A.seen arm.old).faults ≤ (A.seen arm.new).faults }
     ensures writes { (A.seen arm.new).good_writes ≡ (A.seen arm.old).good_writes }
     ensures size { length room.new.block.items ≡ store.now.geometry.block_size }
 {
-    room.found.clear();
-    room.settled.clear();
+    begin_piece(room);
     let many = verify_part(
         store,
         first,
@@ -228,12 +246,14 @@ fn verify_blocks<A: Arm, S: Sink>(
     requires valid { AreEntries entries.now }
     requires blocks { AreBlocks store.now.geometry (map A.Pass.seen passes.now) }
     requires size { length room.old.block.items ≡ store.now.geometry.block_size }
+    requires none { room.old.settled.items ≡ [] }
     ensures looks { IfOk result (λ counted. (looks : List ALook)
         × AreLooks store.now entries.now (map A.Pass.seen passes.now) looks
         × (counted ≡ counted_of entries.now looks)
         × Called looks (A.seen arm.old) (A.seen arm.new)
         × Says (printing printer.old.failed (S.taken out.old) (S.faults out.old)) (printing printer.new.failed (S.taken out.new) (S.faults out.new))
-        (lines_of store.now entries.now looks)) }
+        (lines_of store.now entries.now looks)
+        × (IsTrue room.old.collects → room.new.settled.items ≡ settled_from entries.now looks)) }
     ensures front { OnErr result ((n : ℕ) × (looks : List ALook)
         × AreLooks store.now (take n entries.now) (take n (map A.Pass.seen passes.now)) looks
         × (min ((A.seen arm.old).faults + count_by is_unread_look looks) (2 ^ 64 - 1) ≤ (A.seen arm.new).faults)
@@ -278,15 +298,37 @@ fn verify_blocks<A: Arm, S: Sink>(
     Ok(total)
 }
 
-fn room_for(alloc: Global, store: &StoreId) -> Result<Room, NoMemory>
-    ensures { IfOk result (λ room. length room.block.items ≡ store.now.geometry.block_size) }
+/// No entries, with room for so many where they are collected.
+fn entries_for(alloc: Global, many: usize, collects: bool) -> Result<Vec<Entry>, NoMemory>
+    ensures { IfOk result (λ entries. entries.items ≡ []) }
+{
+    if !collects {
+        return Ok(Vec::new(alloc));
+    }
+    let entries = Vec::with_capacity(alloc, many)?;
+    Ok(entries)
+}
+
+fn room_for(alloc: Global, store: &StoreId, collects: bool) -> Result<Room, NoMemory>
+    ensures size { IfOk result (λ room. length room.block.items ≡ store.now.geometry.block_size) }
+    ensures none { IfOk result (λ room. room.settled.items ≡ []) }
+    ensures collects { IfOk result (λ room. room.collects ≡ collects) }
 {
     let size = store.geometry.block_size() as usize;
+    let settled = entries_for(alloc, store.geometry.blocks() as usize, collects)?;
     Ok(Room {
         block: vec![in alloc; 0u8; size]?,
         found: Vec::new(alloc),
-        settled: Vec::new(alloc),
+        settled,
+        collects,
     })
+}
+
+/// What was counted of a store, and the entry that each of its blocks has now, where these are collected.
+#[derive(Drop)]
+struct Through {
+    counted: Verified,
+    settled: Vec<Entry>,
 }
 
 /// Verifies all blocks of a store through an arm, and prints their findings and the line that ends them.
@@ -296,18 +338,20 @@ fn verify_through<A: Arm, S: Sink>(
     entries: &[Entry],
     arm: &mut A,
     passes: &[A::Pass],
+    collects: bool,
     printer: &mut Printer,
     out: &mut S,
-) -> Result<Verified, NotVerified>
+) -> Result<Through, NotVerified>
     requires one_each { length entries.now ≡ store.now.geometry.blocks }
     requires valid { AreEntries entries.now }
     requires blocks { AreBlocks store.now.geometry (map A.Pass.seen passes.now) }
-    ensures looks { IfOk result (λ counted. (looks : List ALook)
+    ensures looks { IfOk result (λ through. (looks : List ALook)
         × AreLooks store.now entries.now (map A.Pass.seen passes.now) looks
-        × (counted ≡ counted_of entries.now looks)
+        × (through.counted ≡ counted_of entries.now looks)
         × Called looks (A.seen arm.old) (A.seen arm.new)
         × Says (printing printer.old.failed (S.taken out.old) (S.faults out.old)) (printing printer.new.failed (S.taken out.new) (S.faults out.new))
-        (store_text store.now entries.now looks)) }
+        (store_text store.now entries.now looks)
+        × (IsTrue collects → through.settled.items ≡ settled_from entries.now looks)) }
     ensures front { OnErr result ((n : ℕ) × (looks : List ALook)
         × AreLooks store.now (take n entries.now) (take n (map A.Pass.seen passes.now)) looks
         × (min ((A.seen arm.old).faults + count_by is_unread_look looks) (2 ^ 64 - 1) ≤ (A.seen arm.new).faults)
@@ -321,7 +365,7 @@ fn verify_through<A: Arm, S: Sink>(
     ensures output { IsErrOf result NotVerified.Output → printer.new.failed ≡ true }
     ensures no_yard { IsErrOf result NotVerified.Yard → ⊥ }
 {
-    let Ok(mut room) = room_for(alloc, store) else {
+    let Ok(mut room) = room_for(alloc, store, collects) else {
         return Err(NotVerified::NoMemory);
     };
     let counted = verify_blocks(alloc, store, entries, arm, passes, &mut room, printer, out)?;
@@ -329,11 +373,148 @@ fn verify_through<A: Arm, S: Sink>(
         return Err(NotVerified::NoMemory);
     };
     printer.say(out, line.as_str());
-    Ok(counted)
+    Ok(Through {
+        counted,
+        settled: room.settled,
+    })
+}
+
+/// A store that was verified.
+#[derive(Drop)]
+pub struct Looked<P> {
+    /// What was counted.
+    pub counted: Verified,
+    /// Its passes, one for each block, in block order.
+    pub passes: Vec<P>,
+    /// The entry that each block has now, in block order.
+    pub settled: Vec<Entry>,
+}
+
+/// Opens a store's passes and an arm, verifies all its blocks, and prints their findings and the line that ends them. The arm goes back to
+/// the yard, and the passes too unless the answer has them. Settled entries are answered where they are to be collected.
+#[tactic(auto, using(vd_yard::specs::Out::one_more_here, vd_yard::specs::Out::one_more_cancel, vd_yard::specs::Out::one_more_swap, vd_yard::specs::Counts::arm_faults_here, vd_yard::specs::Counts::arm_faults_grow, vd_yard::specs::Counts::arm_faults_none, vd_yard::specs::Counts::arm_faults_other, vd_yard::specs::Counts::good_reads_other, vd_yard::specs::Counts::good_writes_other, vd_yard::specs::Counts::good_writes_none, vd_yard::specs::Counts::source_faults_of_arm, crate::proofs::Frames::blocks_same))]
+fn look_through<Y: Yard, S: Sink>(
+    alloc: Global,
+    yard: &mut Y,
+    store: &StorePlan,
+    entries: &[Entry],
+    collects: bool,
+    printer: &mut Printer,
+    out: &mut S,
+) -> Result<Looked<<Y::Arm as Arm>::Pass>, NotVerified>
+    requires one_each { length entries.now ≡ store.now.id.geometry.blocks }
+    requires valid { AreEntries entries.now }
+    ensures stays { Stays (Y.seen yard.old) (Y.seen yard.new) }
+    ensures taken { OnOk result ((Y.seen yard.new).out ≡ one_more (Y.seen yard.old).out AtPasses store.now.path) }
+    ensures not_taken { OnErr result ((Y.seen yard.new).out ≡ (Y.seen yard.old).out) }
+    ensures disks { (Y.seen yard.new).disks ≡ (Y.seen yard.old).disks }
+    ensures sources { (q : List ℕ) → source_faults (Y.seen yard.new).counts q ≡ source_faults (Y.seen yard.old).counts q }
+    ensures elsewhere { (q : List ℕ) → (q ≡ store.now.path → ⊥) →
+        (arm_faults (Y.seen yard.new).counts q ≡ arm_faults (Y.seen yard.old).counts q)
+        × (good_reads (Y.seen yard.new).counts q ≡ good_reads (Y.seen yard.old).counts q)
+        × (good_writes (Y.seen yard.new).counts q ≡ good_writes (Y.seen yard.old).counts q) }
+    ensures contents { OnOk result ((Y.seen yard.new).contents ≡ (Y.seen yard.old).contents) }
+    ensures blocks { BlocksStay store.now (Y.seen yard.old).contents (Y.seen yard.new).contents }
+    ensures looks { IfOk result (λ looked. (looks : List ALook)
+        × Leaves (Y.seen yard.old) (Y.seen yard.new) store.now entries.now (map Y.Arm.Pass.seen looked.passes.items) looks looked.counted
+        × Says (printing printer.old.failed (S.taken out.old) (S.faults out.old)) (printing printer.new.failed (S.taken out.new) (S.faults out.new))
+        (store_text store.now.id entries.now looks)
+        × (IsTrue collects → looked.settled.items ≡ settled_from entries.now looks)) }
+    ensures front { OnErr result (CameSoFar (Y.seen yard.old) (Y.seen yard.new) store.now entries.now
+        (printing printer.old.failed (S.taken out.old) (S.faults out.old)) (printing printer.new.failed (S.taken out.new) (S.faults out.new))) }
+    // After a failed write no further piece is read.
+    ensures stops { printer.new.failed ≡ true → StopsReading (Y.seen yard.old) (Y.seen yard.new) store.now entries.now
+        (printing printer.old.failed (S.taken out.old) (S.faults out.old)) (printing printer.new.failed (S.taken out.new) (S.faults out.new)) }
+    ensures unopened { IsErrOf result NotVerified.Yard → (Rose (Y.seen yard.old).faults (Y.seen yard.new).faults)
+        × (printer.new ≡ printer.old) × (out.new ≡ out.old) × ((Y.seen yard.new).counts ≡ (Y.seen yard.old).counts) }
+    ensures yard_quiet { (IsErrOf result NotVerified.Yard → ⊥) → (Y.seen yard.new).faults ≡ (Y.seen yard.old).faults }
+    ensures willing { IsTrue (Y.seen yard.old).willing → HasFiles (Y.seen yard.old).files store.now → IsErrOf result NotVerified.Yard → ⊥ }
+    ensures output { IsErrOf result NotVerified.Output → printer.new.failed ≡ true }
+{
+    let passes = match yard.passes(store) {
+        Ok(passes) => passes,
+        Err(YardFault::Failed) => return Err(NotVerified::Yard),
+        Err(YardFault::NoMemory) => return Err(NotVerified::NoMemory),
+    };
+    match yard.arm(store) {
+        Ok(mut arm) => {
+            let answer = verify_through(
+                alloc,
+                &store.id,
+                entries,
+                &mut arm,
+                passes.as_slice(),
+                collects,
+                printer,
+                out,
+            );
+            yard.keep_arm(store, arm);
+            match answer {
+                Ok(Through { counted, settled }) => Ok(Looked {
+                    counted,
+                    passes,
+                    settled,
+                }),
+                Err(why) => {
+                    yard.keep_passes(store, passes);
+                    Err(why)
+                }
+            }
+        }
+        Err(fault) => {
+            yard.keep_passes(store, passes);
+            match fault {
+                YardFault::Failed => Err(NotVerified::Yard),
+                YardFault::NoMemory => Err(NotVerified::NoMemory),
+            }
+        }
+    }
+}
+
+/// Verifies a store as `verify_store` does, but where that goes on the passes stay out of the yard, and are answered with the entry that
+/// each block has now: a block that was read has the one that its verdict leaves, any other keeps its own.
+pub fn look_at_store<Y: Yard, S: Sink>(
+    alloc: Global,
+    yard: &mut Y,
+    store: &StorePlan,
+    entries: &[Entry],
+    printer: &mut Printer,
+    out: &mut S,
+) -> Result<Looked<<Y::Arm as Arm>::Pass>, NotVerified>
+    requires one_each { length entries.now ≡ store.now.id.geometry.blocks }
+    requires valid { AreEntries entries.now }
+    ensures stays { Stays (Y.seen yard.old) (Y.seen yard.new) }
+    ensures taken { OnOk result ((Y.seen yard.new).out ≡ one_more (Y.seen yard.old).out AtPasses store.now.path) }
+    ensures not_taken { OnErr result ((Y.seen yard.new).out ≡ (Y.seen yard.old).out) }
+    ensures disks { (Y.seen yard.new).disks ≡ (Y.seen yard.old).disks }
+    ensures sources { (q : List ℕ) → source_faults (Y.seen yard.new).counts q ≡ source_faults (Y.seen yard.old).counts q }
+    ensures elsewhere { (q : List ℕ) → (q ≡ store.now.path → ⊥) →
+        (arm_faults (Y.seen yard.new).counts q ≡ arm_faults (Y.seen yard.old).counts q)
+        × (good_reads (Y.seen yard.new).counts q ≡ good_reads (Y.seen yard.old).counts q)
+        × (good_writes (Y.seen yard.new).counts q ≡ good_writes (Y.seen yard.old).counts q) }
+    ensures contents { OnOk result ((Y.seen yard.new).contents ≡ (Y.seen yard.old).contents) }
+    ensures blocks { BlocksStay store.now (Y.seen yard.old).contents (Y.seen yard.new).contents }
+    ensures looks { IfOk result (λ looked. (looks : List ALook)
+        × Leaves (Y.seen yard.old) (Y.seen yard.new) store.now entries.now (map Y.Arm.Pass.seen looked.passes.items) looks looked.counted
+        × Says (printing printer.old.failed (S.taken out.old) (S.faults out.old)) (printing printer.new.failed (S.taken out.new) (S.faults out.new))
+        (store_text store.now.id entries.now looks)
+        × (looked.settled.items ≡ settled_from entries.now looks)) }
+    ensures front { OnErr result (CameSoFar (Y.seen yard.old) (Y.seen yard.new) store.now entries.now
+        (printing printer.old.failed (S.taken out.old) (S.faults out.old)) (printing printer.new.failed (S.taken out.new) (S.faults out.new))) }
+    // After a failed write no further piece is read.
+    ensures stops { printer.new.failed ≡ true → StopsReading (Y.seen yard.old) (Y.seen yard.new) store.now entries.now
+        (printing printer.old.failed (S.taken out.old) (S.faults out.old)) (printing printer.new.failed (S.taken out.new) (S.faults out.new)) }
+    ensures unopened { IsErrOf result NotVerified.Yard → (Rose (Y.seen yard.old).faults (Y.seen yard.new).faults)
+        × (printer.new ≡ printer.old) × (out.new ≡ out.old) × ((Y.seen yard.new).counts ≡ (Y.seen yard.old).counts) }
+    ensures yard_quiet { (IsErrOf result NotVerified.Yard → ⊥) → (Y.seen yard.new).faults ≡ (Y.seen yard.old).faults }
+    ensures willing { IsTrue (Y.seen yard.old).willing → HasFiles (Y.seen yard.old).files store.now → IsErrOf result NotVerified.Yard → ⊥ }
+    ensures output { IsErrOf result NotVerified.Output → printer.new.failed ≡ true }
+{
+    look_through(alloc, yard, store, entries, true, printer, out)
 }
 
 /// Opens a store's passes and an arm, verifies all its blocks, prints their findings and the line that ends them, and gives back what it opened.
-#[tactic(auto, using(vd_yard::specs::Out::one_more_here, vd_yard::specs::Out::one_more_cancel, vd_yard::specs::Out::one_more_swap, vd_yard::specs::Counts::arm_faults_here, vd_yard::specs::Counts::arm_faults_grow, vd_yard::specs::Counts::arm_faults_none, vd_yard::specs::Counts::arm_faults_other, vd_yard::specs::Counts::good_reads_other, vd_yard::specs::Counts::good_writes_other, vd_yard::specs::Counts::good_writes_none, vd_yard::specs::Counts::source_faults_of_arm, crate::proofs::Frames::blocks_same))]
+#[tactic(auto, using(vd_yard::specs::Out::one_more_here, vd_yard::specs::Out::one_more_cancel))]
 pub fn verify_store<Y: Yard, S: Sink>(
     alloc: Global,
     yard: &mut Y,
@@ -370,32 +551,7 @@ pub fn verify_store<Y: Yard, S: Sink>(
     ensures willing { IsTrue (Y.seen yard.old).willing → HasFiles (Y.seen yard.old).files store.now → IsErrOf result NotVerified.Yard → ⊥ }
     ensures output { IsErrOf result NotVerified.Output → printer.new.failed ≡ true }
 {
-    let passes = match yard.passes(store) {
-        Ok(passes) => passes,
-        Err(YardFault::Failed) => return Err(NotVerified::Yard),
-        Err(YardFault::NoMemory) => return Err(NotVerified::NoMemory),
-    };
-    match yard.arm(store) {
-        Ok(mut arm) => {
-            let answer = verify_through(
-                alloc,
-                &store.id,
-                entries,
-                &mut arm,
-                passes.as_slice(),
-                printer,
-                out,
-            );
-            yard.keep_arm(store, arm);
-            yard.keep_passes(store, passes);
-            answer
-        }
-        Err(fault) => {
-            yard.keep_passes(store, passes);
-            match fault {
-                YardFault::Failed => Err(NotVerified::Yard),
-                YardFault::NoMemory => Err(NotVerified::NoMemory),
-            }
-        }
-    }
+    let looked = look_through(alloc, yard, store, entries, false, printer, out)?;
+    yard.keep_passes(store, looked.passes);
+    Ok(looked.counted)
 }

@@ -1,4 +1,4 @@
-use Rattle.std.proofs.Common.{◌≡◌, ◌++◌, length, map, refl, sym, ap, ◌∙◌}
+use Rattle.std.proofs.Common.{◌≡◌, ◌++◌, length, map, refl, sym, ap, subst, ◌∙◌, Bool, IsTrue}
 use Rattle.run_report.specs.Says.{says_along, says_then}
 use Rattle.run_report.specs.Findings.{verified_text}
 use Rattle.still_store.specs.Verification.{lines_of}
@@ -23,6 +23,7 @@ returns-clause-looks g c =
       v.2,
       v.3,
       says_along _ _ _ _ (ap (λ t. lines_of c.args.store.now c.args.entries.now v.0 ++ t) (c.as_str.ensures ∙ (c.in-Ok-verified_line.ensures ∙ ap (verified_text c.args.store.now.name) v.2))) (says_then _ _ _ _ _ v.4 c.say.ensures.says),
+      λ collected. v.5 (subst (λ (b : Bool). IsTrue b) (sym c.in-Ok.ensures.collects) collected),
     )
 
 pub returns-in_default-clause-stops : goal.returns-in_default-clause-stops

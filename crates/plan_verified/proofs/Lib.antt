@@ -1,0 +1,5 @@
+mod Settling
+mod Leaving
+mod Outs
+mod Ending
+mod Returning
