@@ -1,0 +1,4 @@
+pub mod Keeping
+pub mod Recoveries
+pub mod Reopenings
+pub mod Following

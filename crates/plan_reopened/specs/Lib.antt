@@ -1,0 +1,4 @@
+pub mod Kept
+pub mod Recovering
+pub mod Reopening
+pub mod Laws
