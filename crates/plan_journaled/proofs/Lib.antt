@@ -1,0 +1,7 @@
+mod Saying
+mod Following
+mod Stopping
+mod Ending
+mod Closed
+pub mod Anew
+mod Recovering
