@@ -305,7 +305,7 @@ def random_case(rng):
     disk, data = random_disk_and_data(rng, name, blocks)
     words = ["-jro", "-f", "parm"]
     if rng.random() < 0.05:
-        words = rng.choice([[], ["-jro"], ["-jro", "-f"], ["-j", "-f", "parm"], ["-f", "parm", "-jro"], ["-jro", "-f", "-x"],
+        words = rng.choice([[], ["-jro"], ["-jro", "-f"], ["-j", "-jr", "-f", "parm"], ["-f", "parm", "-jro"], ["-jro", "-f", "-x"],
                             ["-jro", "-f", ""], ["-jro", "-f", "parm", "parm"], ["-jr", "-f", "parm"], ["-jro", "-fparm", "x"],
                             ["--help"], ["--version"], ["-sim", "1000001"]])
     given = random_parameters(rng, name, path, kib)

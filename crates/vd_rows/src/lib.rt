@@ -7,6 +7,8 @@
 #[cfg(test)]
 mod image;
 #[cfg(test)]
+mod journaled;
+#[cfg(test)]
 mod plans;
 #[cfg(test)]
 mod refusals;

@@ -46,6 +46,12 @@ pub fn put(rt: &impl Abort, sectors: &mut Vec<Sector>, bytes: &Bytes) {
     sectors[sector][at..at + here.len()].copy_from_slice(here);
 }
 
+/// Puts a sector whose bytes are all this one at a place.
+pub fn put_sector(rt: &impl Abort, sectors: &mut Vec<Sector>, sector: usize, fill: u8) {
+    assert!(rt; sector < sectors.len());
+    sectors[sector] = [fill; 512];
+}
+
 /// The sectors of a journal that is zeros but for these bytes. Of the whole one there are 20: two gates, and twice a map sector and
 /// 8 log sectors.
 pub fn journal(rt: &impl Abort, alloc: Global, many: usize, parts: &[Bytes]) -> Vec<Sector> {

@@ -38,7 +38,7 @@ const NO_COMMANDS: [&str; 28] = [
 ];
 
 /// Commands whose modes aren't built.
-const NOT_BUILT: [&str; 3] = ["-j -f p", "-jr -fp", "-j -vr -f p"];
+const NOT_BUILT: [&str; 3] = ["-jr -f p", "-fp -jr", "-jr -vr -f p"];
 
 /// Words that ask for the same: the stores of p are looked at.
 const LOOKS: [&str; 9] = [

@@ -5,3 +5,4 @@ pub mod Tellings
 pub mod Schedules
 pub mod Statuses
 pub mod Runs
+pub mod Sums

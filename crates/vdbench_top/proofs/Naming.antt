@@ -11,7 +11,9 @@ use Rattle.command_words.specs.declared.command.Command.{Command}
 use Rattle.command_words.specs.declared.command.Flag.{Flag}
 use Rattle.command_words.specs.declared.command.Mode.{Mode}
 use Rattle.command_words.specs.declared.command.Mode.TheVariants as mode
-use Rattle.vdbench_top.specs.Words.{command_built, built_only, is_built, runs_quietly, file_by, file_in, file_of, name_at, name_in, run_by, run_of, steps_by, steps_in, steps_of}
+use Rattle.vdbench_top.specs.Words.{Asked, asked, asked_in, command_built, built_only, is_built, keeping_of, file_by, file_in, file_of, name_at, name_in, run_by, run_of, steps_by, steps_in, steps_of}
+use Rattle.vdbench_top.specs.declared.words.Keeping.{Keeping}
+use Rattle.vdbench_top.specs.declared.words.Keeping.TheVariants as keeping
 
 some_is : {A : Type 0} (x y : A) → Some x ≡ Some y → x ≡ y
 some_is x y e = cc
@@ -57,19 +59,20 @@ mapped_none : {A B : Type 0} (f : A → B) (o : Option A) → option_map f o ≡
 mapped_none f None e = refl
 mapped_none f (Some x) e = absurd (let g : Some (f x) ≡ None = e in cc)
 
-abbrev with_again : Bool → List ℕ → List ℕ × Bool
-with_again again name = (name, again)
+abbrev with_again : Bool → Keeping → List ℕ → Asked
+with_again again keeping name = asked name again keeping
 
 asked_by : (words : List (List ℕ)) (file : Option ℕ) (again : Bool) (m : Mode) → ((at : ℕ) → file ≡ Some at → at < length words) → (file ≡ None → (n : ℕ) × (m ≡ mode.Simulate n)) → is_built m ≡ true
-    → file_in words file m ≡ None → cond (runs_quietly m) (option_map (with_again again) (name_at words file)) None ≡ None → steps_in m ≡ None → ⊥
+    → file_in words file m ≡ None → asked_in words file again (keeping_of m) ≡ None → steps_in m ≡ None → ⊥
 asked_by words file again mode.Show within steps built none no_run no_steps =
     named_by words file within (λ e. let s = steps e in no_steps_there mode.Show s.0 s.1 no_steps) none
 asked_by words file again mode.RecoverOnly within steps built none no_run no_steps =
     named_by words file within (λ e. let s = steps e in no_steps_there mode.RecoverOnly s.0 s.1 no_steps) none
 asked_by words file again (mode.Simulate n) within steps built none no_run no_steps = (let f : Some n ≡ None = no_steps in cc)
 asked_by words file again mode.Validate within steps built none no_run no_steps =
-    named_by words file within (λ e. let s = steps e in no_steps_there mode.Validate s.0 s.1 no_steps) (mapped_none (with_again again) (name_at words file) no_run)
-asked_by words file again mode.Journal within steps built none no_run no_steps = cc
+    named_by words file within (λ e. let s = steps e in no_steps_there mode.Validate s.0 s.1 no_steps) (mapped_none (with_again again keeping.Nothing) (name_at words file) no_run)
+asked_by words file again mode.Journal within steps built none no_run no_steps =
+    named_by words file within (λ e. let s = steps e in no_steps_there mode.Journal s.0 s.1 no_steps) (mapped_none (with_again again keeping.NewJournals) (name_at words file) no_run)
 asked_by words file again mode.Recover within steps built none no_run no_steps = cc
 
 built_one : (words : List (List ℕ)) (c : Command) (b : Bool) → is_built c.mode ≡ b → command_said words ≡ Some c → ((at : ℕ) → c.file ≡ Some at → at < length words)

@@ -1,16 +1,19 @@
 -- From what is said over a plan's runs to what is said over a command that runs it.
-use Rattle.std.proofs.Common.{◌≡◌, ℕ, Bool, true, false, IsTrue, List, [], refl, sym, ◌∙◌, subst, inl, inr, Option, Some, Err, map}
+use Rattle.std.proofs.Common.{◌≡◌, ℕ, Bool, true, false, IsTrue, List, [], refl, sym, ◌∙◌, subst, inl, inr, ◌⊎◌, Option, Some, Err, map}
 use Rattle.std.specs.Prelude.{◌≢◌}
 use Rattle.vd_outside.specs.Causes.{Rose}
 use Rattle.vd_outside.specs.Clocks.{ClockSeen}
 use Rattle.vd_arm.specs.Arm.{PassSeen}
 use Rattle.vd_yard.specs.Counts.{arm_faults, good_reads, good_writes, source_faults}
 use Rattle.vd_yard.specs.Out.{AtSource}
-use Rattle.vd_yard.specs.Yard.{YardSeen, is_there}
+use Rattle.vd_yard.specs.Kept.{Kept}
+use Rattle.vd_disk.specs.Disk.{DiskSeen}
+use Rattle.vd_yard.specs.Yard.{Tells, YardSeen, is_there}
 use Rattle.plan_types.specs.Valid.{IsPlan}
 use Rattle.plan_types.specs.declared.plan.Plan.{Plan}
 use Rattle.plan_file.specs.Files.{PlansTo}
 use Rattle.key_state.specs.Quiet.{quiet_seen}
+use Rattle.key_state.specs.declared.seen.BookSeen.{BookSeen}
 use Rattle.run_report.specs.Lines.{cannot_open_text, cannot_read_text}
 use Rattle.run_report.specs.Says.{Printing, Says, printing, says_along, says_none}
 use Rattle.run_report.specs.Status.{last_text}
@@ -21,8 +24,16 @@ use Rattle.still_store.specs.Frame.{Keeps}
 use Rattle.plan_hands.specs.Stores.{with_books}
 use Rattle.plan_runs.specs.Quiet.{CanEndRun, RunsQuietly, unwritten}
 use Rattle.plan_runs.specs.Stages.{Stage, stage}
-use Rattle.vdbench_top.specs.Runs.{HasNoPlan, unopened, unread, refused, unkept, OnlyReads, RunsFile, no_plan, ran, RunCall, rereading}
+use Rattle.plan_journaled.specs.Journaled.{RunsJournaled, StandClosed}
+use Rattle.plan_journaled.specs.Over.{CanEndOver}
+use Rattle.plan_journals.specs.Closing.{WentWell}
+use Rattle.plan_journals.specs.Growth.{AreKeptClosed, ChangesOnlyJournals, SomeRose}
+use Rattle.plan_journals.specs.Open.{Start, new_starts}
+use Rattle.vdbench_top.specs.Runs.{CanEndAs, CanEndJournaled, HasNoPlan, unopened, unread, refused, unkept, KeepsJournals, MakesJournals, without_plan, over_plan, OnlyReads, RunsFile, no_plan, ran, ran_journaled, RunCall, rereading}
 use Rattle.vdbench_top.specs.Still.{AreBytesOf, IsPlanOf}
+use Rattle.vdbench_top.specs.Words.{Asked, asked}
+use Rattle.vdbench_top.specs.declared.words.Keeping.{Keeping}
+use Rattle.vdbench_top.specs.declared.words.Keeping.TheVariants as keeping
 use Rattle.vdbench_top.proofs.Statuses.{quietly_says}
 use Rattle.still_plan.proofs.Frames.{keeps_same}
 use Rattle.vdbench_top.proofs.Tellings.{ends_by, untouched_same}
@@ -76,6 +87,37 @@ no_plan_can a c file text result n = record {
   no_epoch_over = no_plan_status a c file text result status.EpochEnd n (λ e. cc) (λ e. cc) (λ e. cc) (λ e. cc);
 }
 
+pub no_plan_ends : (a c : YardSeen) (file text : List ℕ) (result : Status) → HasNoPlan a c file text result → (k : Keeping) → CanEndAs k result
+no_plan_ends a c file text result n keeping.Nothing = no_plan_can a c file text result n
+no_plan_ends a c file text result n keeping.NewJournals = record {
+  no_usage = no_plan_status a c file text result status.Usage n (λ e. cc) (λ e. cc) (λ e. cc) (λ e. cc);
+  no_output = no_plan_status a c file text result status.Sink n (λ e. cc) (λ e. cc) (λ e. cc) (λ e. cc);
+  none_missing = no_plan_status a c file text result status.NoJournal n (λ e. cc) (λ e. cc) (λ e. cc) (λ e. cc);
+  none_damaged = no_plan_status a c file text result status.Damaged n (λ e. cc) (λ e. cc) (λ e. cc) (λ e. cc);
+  none_mismatched = no_plan_status a c file text result status.Mismatch n (λ e. cc) (λ e. cc) (λ e. cc) (λ e. cc);
+}
+
+-- it doesn't go well either, and no journal failed
+pub no_plan_bad : (a c : YardSeen) (file text : List ℕ) (result : Status) → HasNoPlan a c file text result → WentWell result → ⊥
+no_plan_bad a c file text result (unopened r w t s) well = subst WentWell s well
+no_plan_bad a c file text result (unread r w t s) well = subst WentWell s well
+no_plan_bad a c file text result (refused bytes are p s) well = subst WentWell s well
+no_plan_bad a c file text result (unkept t s) well = subst WentWell s well
+
+-- how a command ends says that its output didn't fail
+pub no_output_as : (k : Keeping) (result : Status) → CanEndAs k result → result ≢ status.Sink
+no_output_as keeping.Nothing result can = can.no_output
+no_output_as keeping.NewJournals result can = can.no_output
+
+pub ends_over : (result : Status) → CanEndOver result → CanEndJournaled result
+ends_over result can = record {
+  no_usage = can.no_usage;
+  no_output = can.no_output;
+  none_missing = can.none_missing;
+  none_damaged = can.none_damaged;
+  none_mismatched = can.none_mismatched;
+}
+
 -- ---- what was read
 pub only_reads : (a b : YardSeen) → Keeps a b → b.contents ≡ a.contents → b.disks ≡ a.disks → ((q : List ℕ) → arm_faults b.counts q ≡ arm_faults a.counts q) → ((q : List ℕ) → good_reads b.counts q ≡ good_reads a.counts q) → ((q : List ℕ) → good_writes b.counts q ≡ good_writes a.counts q) → OnlyReads a b
 only_reads a b k c d f r w = record {
@@ -107,69 +149,145 @@ rereading_valid again plan v = record {
 some_same : {A : Type 0} (x y : A) → Some x ≡ Some y → x ≡ y
 some_same x y e = cc
 
-same_asked : (name : List ℕ) (again : Bool) (asked : List ℕ × Bool) (o : Option (List ℕ × Bool)) → Some (name, again) ≡ o → o ≡ Some asked → (name, again) ≡ asked
-same_asked name again asked o e f = let pair : List ℕ × Bool = (name, again) in some_same pair asked (e ∙ f)
+same_asked : (x asks : Asked) (o : Option Asked) → Some x ≡ o → o ≡ Some asks → x ≡ asks
+same_asked x asks o e f = some_same x asks (e ∙ f)
 
-module _ {P : Type 0} (pass_seen : P → PassSeen) where
+-- ---- the kept disks
+pub makes_none : (a c : YardSeen) (file text : List ℕ) (result : Status) → OnlyReads a c → HasNoPlan a c file text result → MakesJournals a c file result
+makes_none a c file text result o n =
+    without_plan o.untouched.disks (no_plan_bad a c file text result n)
+    (no_plan_status a c file text result status.Journal n (λ e. cc) (λ e. cc) (λ e. cc) (λ e. cc))
+
+grows_behind : (starts : List Start) (a b c : YardSeen) → b.disks ≡ a.disks → ChangesOnlyJournals starts b.disks c.disks → ChangesOnlyJournals starts a.disks c.disks
+grows_behind starts a b c e g = subst (λ (k : Kept DiskSeen). ChangesOnlyJournals starts k c.disks) e g
+
+stand_behind : (plan : Plan) (a b c : YardSeen) → b.disks ≡ a.disks → StandClosed plan b c → StandClosed plan a c
+stand_behind plan a b c e s = record {
+  books = s.books;
+  one_each = s.one_each;
+  closed = subst (λ (k : Kept DiskSeen). AreKeptClosed k c.disks (new_starts plan.journal_sectors plan.stores) s.books) e s.closed;
+}
+
+stand_along : (plan : Plan) (again : Bool) (a c : YardSeen) → StandClosed (rereading again plan) a c → StandClosed plan a c
+stand_along plan again a c s = record { books = s.books; one_each = s.one_each; closed = s.closed }
+
+pub keeps_journals : (a b c : YardSeen) (again : Bool) (plan now : Plan) (result : Status) → OnlyReads a b → now ≡ rereading again plan
+    → ChangesOnlyJournals (new_starts now.journal_sectors now.stores) b.disks c.disks
+    → (WentWell result → IsTrue b.tells.keeps_disks → StandClosed now b c)
+    → (result ≡ status.Journal → IsTrue b.tells.keeps_disks → SomeRose now.stores b.disks c.disks) → KeepsJournals plan a c result
+keeps_journals a b c again plan now result o e grows whole failed =
+    let told : IsTrue a.tells.keeps_disks → IsTrue b.tells.keeps_disks = λ keeps. subst (λ (t : Tells). IsTrue t.keeps_disks) (sym o.keeps.tells) keeps in
+    record {
+      grows = grows_behind (new_starts plan.journal_sectors plan.stores) a b c o.untouched.disks (subst (λ (x : Plan). ChangesOnlyJournals (new_starts x.journal_sectors x.stores) b.disks c.disks) e grows);
+      closed = λ well keeps. stand_behind plan a b c o.untouched.disks (stand_along plan again b c (subst (λ (x : Plan). StandClosed x b c) e (whole well (told keeps))));
+      failed = λ is keeps. subst (λ (k : Kept DiskSeen). SomeRose plan.stores k c.disks) o.untouched.disks (subst (λ (x : Plan). SomeRose x.stores b.disks c.disks) e (failed is (told keeps)));
+    }
+
+-- another status that is neither 0, 1 or 2 nor that of a failed journal
+pub makes_unheard : (a c : YardSeen) (file : List ℕ) (result : Status) → MakesJournals a c file result → MakesJournals a c file status.Sink
+makes_unheard a c file result (without_plan d w j) = without_plan d (λ x. x) (λ e. cc)
+makes_unheard a c file result (over_plan plan is k) = over_plan plan is (record { grows = k.grows; closed = λ x. absurd x; failed = λ e. absurd (let f : status.Sink ≡ status.Journal = e in cc) })
+
+pub makes_ends : (a c : YardSeen) (file name : List ℕ) (said result : Status) (f : Bool) → file ≡ name → (f ≡ true → result ≡ status.Sink) → (f ≡ false → result ≡ said)
+    → MakesJournals a c file said → MakesJournals a c name result
+makes_ends a c file name said result true e failed good m =
+    subst (λ (x : List ℕ). MakesJournals a c x result) e (subst (λ (s : Status). MakesJournals a c file s) (sym (failed refl)) (makes_unheard a c file said m))
+makes_ends a c file name said result false e failed good m =
+    subst (λ (x : List ℕ). MakesJournals a c x result) e (subst (λ (s : Status). MakesJournals a c file s) (sym (good refl)) m)
+
+pub makes_nothing : (a : YardSeen) (name : List ℕ) (result : Status) (f : Bool) → (f ≡ true → result ≡ status.Sink) → (f ≡ false → result ≡ status.NoMemory) → MakesJournals a a name result
+makes_nothing a name result f failed good = makes_ends a a name name status.NoMemory result f refl failed good (without_plan refl (λ x. x) (λ e. cc))
+
+-- a willing yard that has the parameter file opens it
+pub no_plan_opens : (a c : YardSeen) (file text : List ℕ) (result : Status) → HasNoPlan a c file text result → IsTrue a.willing → IsTrue (is_there a.files AtSource file) → result ≢ status.Yard
+no_plan_opens a c file text result (unopened r w t s) willing there = λ e. w willing there
+no_plan_opens a c file text result (unread r w t s) willing there = λ e. (let f : status.Source ≡ status.Yard = sym s ∙ e in cc)
+no_plan_opens a c file text result (refused bytes are p s) willing there = λ e. (let f : status.Parameter ≡ status.Yard = sym s ∙ e in cc)
+no_plan_opens a c file text result (unkept t s) willing there = λ e. (let f : status.NoMemory ≡ status.Yard = sym s ∙ e in cc)
+
+-- what was said before the last lines, where the output didn't fail
+pub said_not : (f : Bool) (said result other : Status) → (f ≡ true → result ≡ status.Sink) → (f ≡ false → result ≡ said) → result ≢ status.Sink → result ≢ other → said ≢ other
+said_not true said result other failed good heard n = absurd (heard (failed refl))
+said_not false said result other failed good heard n = λ e. n (good refl ∙ e)
+
+pub ends_as : (f : Bool) (k : Keeping) (said result : Status) → (f ≡ true → result ≡ status.Sink) → (f ≡ false → result ≡ said) → CanEndAs k said → (result ≡ status.Sink) ⊎ CanEndAs k result
+ends_as true k said result failed good can = inl (failed refl)
+ends_as false k said result failed good can = inr (subst (λ (s : Status). CanEndAs k s) (sym (good refl)) can)
+
+module _ {P B : Type 0} (pass_seen : P → PassSeen) (book_seen : B → BookSeen) where
   -- ---- a parameter file
-  pub file_unplanned : (a c : YardSeen) (clock : ClockSeen) (again : Bool) (file : List ℕ) (result : Status) (p q : Printing) → OnlyReads a c → NoPlan a c file result p q
-      → (text : List ℕ) × RunsFile pass_seen (stage [] a clock 0 p) (stage [] c clock 0 q) again file text result
-  file_unplanned a c clock again file result p q r n = (n.0, no_plan r n.1 refl n.2)
+  pub file_unplanned : (a c : YardSeen) (clock : ClockSeen) (asks : Asked) (result : Status) (p q : Printing) → OnlyReads a c → NoPlan a c asks.file result p q
+      → (text : List ℕ) × RunsFile pass_seen book_seen (stage [] a clock 0 p) (stage [] c clock 0 q) asks text result
+  file_unplanned a c clock asks result p q r n = (n.0, no_plan r n.1 refl n.2)
 
   -- Reading said nothing: the runs go on from what was printed before.
-  pub file_ran : (a b c : YardSeen) (k l : ClockSeen) (again : Bool) (file : List ℕ) (plan now : Plan) (result : Status) (p read q : Printing) → OnlyReads a b → IsPlanOf a file plan → now ≡ rereading again plan
+  pub file_ran : (a b c : YardSeen) (k l : ClockSeen) (again : Bool) (file : List ℕ) (plan now : Plan) (result : Status) (p read q : Printing) → OnlyReads a b → IsPlanOf a file plan → IsPlan plan → now ≡ rereading again plan
       → (text : List ℕ) × RunsQuietly pass_seen quiet_seen now (stage (with_books (map unwritten now.stores)) b k 0 read) (stage [] c l 0 q) text result → read ≡ p
-      → (text : List ℕ) × RunsFile pass_seen (stage [] a k 0 p) (stage [] c l 0 q) again file text result
-  file_ran a b c k l again file plan now result p read q r is e v same = (
+      → (text : List ℕ) × RunsFile pass_seen book_seen (stage [] a k 0 p) (stage [] c l 0 q) (asked file again keeping.Nothing) text result
+  file_ran a b c k l again file plan now result p read q r is valid e v same = (
     v.0,
-    ran plan is b r (subst (λ (x : Printing). RunsQuietly pass_seen quiet_seen (rereading again plan) (stage (with_books (map unwritten plan.stores)) b k 0 x) (stage [] c l 0 q) v.0 result) same
+    ran plan refl is (rereading_valid again plan valid) b r (subst (λ (x : Printing). RunsQuietly pass_seen quiet_seen (rereading again plan) (stage (with_books (map unwritten plan.stores)) b k 0 x) (stage [] c l 0 q) v.0 result) same
         (subst (λ (x : Plan). RunsQuietly pass_seen quiet_seen x (stage (with_books (map unwritten x.stores)) b k 0 read) (stage [] c l 0 q) v.0 result) e v.1)),
   )
 
-  -- the same parameter file by another name of its own
-  pub runs_along : (before after : Stage) (again : Bool) (f g text : List ℕ) (result : Status) → f ≡ g → RunsFile pass_seen before after again f text result → RunsFile pass_seen before after again g text result
-  runs_along before after again f g text result e s = subst (λ (x : List ℕ). RunsFile pass_seen before after again x text result) e s
+  pub file_journaled : (a b c : YardSeen) (k l : ClockSeen) (again : Bool) (file : List ℕ) (plan now : Plan) (result : Status) (p read q : Printing) → OnlyReads a b → IsPlanOf a file plan → IsPlan plan → now ≡ rereading again plan
+      → (text : List ℕ) × RunsJournaled pass_seen book_seen now (stage [] b k 0 read) (stage [] c l 0 q) text result × Says read q text → KeepsJournals plan a c result → read ≡ p
+      → (text : List ℕ) × RunsFile pass_seen book_seen (stage [] a k 0 p) (stage [] c l 0 q) (asked file again keeping.NewJournals) text result
+  file_journaled a b c k l again file plan now result p read q r is valid e v keeps same = (
+    v.0,
+    ran_journaled plan refl is (rereading_valid again plan valid) b r (subst (λ (x : Printing). RunsJournaled pass_seen book_seen (rereading again plan) (stage [] b k 0 x) (stage [] c l 0 q) v.0 result) same
+        (subst (λ (x : Plan). RunsJournaled pass_seen book_seen x (stage [] b k 0 read) (stage [] c l 0 q) v.0 result) e v.1))
+        (subst (λ (x : Printing). Says x q v.0) same v.2) keeps,
+  )
 
-  pub file_says : (before after : Stage) (again : Bool) (file text : List ℕ) (result : Status) → RunsFile pass_seen before after again file text result → Says before.printing after.printing text
-  file_says before after again file text result (no_plan o n k s) = s
-  file_says before after again file text result (ran plan is b o q) =
-      quietly_says pass_seen quiet_seen (rereading again plan) (stage (with_books (map unwritten plan.stores)) b before.clock 0 before.printing) after text result q
+  pub file_as : (before after : Stage) (again : Bool) (file : List ℕ) (result : Status) (k x : Keeping) → k ≡ x
+      → (text : List ℕ) × RunsFile pass_seen book_seen before after (asked file again x) text result → (text : List ℕ) × RunsFile pass_seen book_seen before after (asked file again k) text result
+  file_as before after again file result k x e f = subst (λ (y : Keeping). (text : List ℕ) × RunsFile pass_seen book_seen before after (asked file again y) text result) (sym e) f
+
+  -- the same parameter file by another name of its own
+  pub runs_along : (before after : Stage) (again : Bool) (k : Keeping) (f g text : List ℕ) (result : Status) → f ≡ g → RunsFile pass_seen book_seen before after (asked f again k) text result → RunsFile pass_seen book_seen before after (asked g again k) text result
+  runs_along before after again k f g text result e s = subst (λ (x : List ℕ). RunsFile pass_seen book_seen before after (asked x again k) text result) e s
+
+  pub file_says : (before after : Stage) (asks : Asked) (text : List ℕ) (result : Status) → RunsFile pass_seen book_seen before after asks text result → Says before.printing after.printing text
+  file_says before after asks text result (no_plan o n k s) = s
+  file_says before after asks text result (ran_journaled plan kept is v b o q s m) = s
+  file_says before after asks text result (ran plan kept is v b o q) =
+      quietly_says pass_seen quiet_seen (rereading asks.again plan) (stage (with_books (map unwritten plan.stores)) b before.clock 0 before.printing) after text result q
 
   -- A whole call, by what a printer said that had printed nothing.
-  pub call_by : (a c : YardSeen) (k l : ClockSeen) (again : Bool) (file name text : List ℕ) (said result : Status) (f : Bool) (taken : Option (List ℕ)) (faults : ℕ) (q e : Printing) → f ≡ false → file ≡ name
-      → RunsFile pass_seen (stage [] a k 0 (printing f taken faults)) (stage [] c l 0 q) again file text said → CanEndRun said
+  pub call_by : (a c : YardSeen) (k l : ClockSeen) (again : Bool) (keep : Keeping) (file name text : List ℕ) (said result : Status) (f : Bool) (taken : Option (List ℕ)) (faults : ℕ) (q e : Printing) → f ≡ false → file ≡ name
+      → RunsFile pass_seen book_seen (stage [] a k 0 (printing f taken faults)) (stage [] c l 0 q) (asked file again keep) text said → said ≢ status.Sink
       → Says q e (last_text said) → (e.failed ≡ true → result ≡ status.Sink) → (e.failed ≡ false → result ≡ said)
-      → RunCall pass_seen a c k l taken e.taken faults e.faults again name result
-  call_by a c k l again file name text said result f taken faults q e fresh same runs can last failed good = record {
+      → RunCall pass_seen book_seen a c k l taken e.taken faults e.faults (asked name again keep) result
+  call_by a c k l again keep file name text said result f taken faults q e fresh same runs heard last failed good = record {
     text = text;
     said = said;
     last = q;
     runs =
-        subst (λ (x : Bool). RunsFile pass_seen (stage [] a k 0 (printing x taken faults)) (stage [] c l 0 q) again name text said) fresh
-        (runs_along (stage [] a k 0 (printing f taken faults)) (stage [] c l 0 q) again file name text said same runs);
+        subst (λ (x : Bool). RunsFile pass_seen book_seen (stage [] a k 0 (printing x taken faults)) (stage [] c l 0 q) (asked name again keep) text said) fresh
+        (runs_along (stage [] a k 0 (printing f taken faults)) (stage [] c l 0 q) again keep file name text said same runs);
     ends =
         ends_by (printing f taken faults) q e text said result
-        (file_says (stage [] a k 0 (printing f taken faults)) (stage [] c l 0 q) again file text said runs) last failed good (λ s. absurd (can.no_output s));
+        (file_says (stage [] a k 0 (printing f taken faults)) (stage [] c l 0 q) (asked file again keep) text said runs) last failed good (λ s. absurd (heard s));
   }
 
   -- Memory ran out before anything was done.
-  pub call_without_memory : (a : YardSeen) (k : ClockSeen) (again : Bool) (name : List ℕ) (result : Status) (f : Bool) (taken : Option (List ℕ)) (faults : ℕ) (e : Printing) → f ≡ false
+  pub call_without_memory : (a : YardSeen) (k : ClockSeen) (again : Bool) (keep : Keeping) (name : List ℕ) (result : Status) (f : Bool) (taken : Option (List ℕ)) (faults : ℕ) (e : Printing) → f ≡ false
       → Says (printing f taken faults) e (last_text status.NoMemory) → (e.failed ≡ true → result ≡ status.Sink) → (e.failed ≡ false → result ≡ status.NoMemory)
-      → RunCall pass_seen a a k k taken e.taken faults e.faults again name result
-  call_without_memory a k again name result f taken faults e fresh last failed good =
-      call_by a a k k again name name [] status.NoMemory result f taken faults (printing f taken faults) e fresh refl
-      (no_plan (only_reads_same a) (unkept refl refl) refl (says_none (printing f taken faults))) (no_plan_can a a name [] status.NoMemory (unkept refl refl)) last failed good
+      → RunCall pass_seen book_seen a a k k taken e.taken faults e.faults (asked name again keep) result
+  call_without_memory a k again keep name result f taken faults e fresh last failed good =
+      call_by a a k k again keep name name [] status.NoMemory result f taken faults (printing f taken faults) e fresh refl
+      (no_plan (only_reads_same a) (unkept refl refl) refl (says_none (printing f taken faults))) (λ s. cc) last failed good
 
   -- The call that the words ask for.
-  pub call_as : (a c : YardSeen) (k l : ClockSeen) (taken now : Option (List ℕ)) (m n : ℕ) (again : Bool) (name : List ℕ) (result : Status) (asked : List ℕ × Bool) (o : Option (List ℕ × Bool)) → Some (name, again) ≡ o → o ≡ Some asked
-      → RunCall pass_seen a c k l taken now m n again name result → RunCall pass_seen a c k l taken now m n asked.1 asked.0 result
-  call_as a c k l taken now m n again name result asked o e f call =
-      subst (λ (x : List ℕ × Bool). RunCall pass_seen a c k l taken now m n x.1 x.0 result) (same_asked name again asked o e f) call
+  pub call_as : (a c : YardSeen) (k l : ClockSeen) (taken now : Option (List ℕ)) (m n : ℕ) (x : Asked) (result : Status) (asks : Asked) (o : Option Asked) → Some x ≡ o → o ≡ Some asks
+      → RunCall pass_seen book_seen a c k l taken now m n x result → RunCall pass_seen book_seen a c k l taken now m n asks result
+  call_as a c k l taken now m n x result asks o e f call =
+      subst (λ (y : Asked). RunCall pass_seen book_seen a c k l taken now m n y result) (same_asked x asks o e f) call
 
-pub rose_as : (a c : YardSeen) (again : Bool) (name : List ℕ) (asked : List ℕ × Bool) (o : Option (List ℕ × Bool)) → Some (name, again) ≡ o → o ≡ Some asked
-    → Rose (source_faults a.counts name) (source_faults c.counts name) → Rose (source_faults a.counts asked.0) (source_faults c.counts asked.0)
-rose_as a c again name asked o e f r =
-    subst (λ (x : List ℕ × Bool). Rose (source_faults a.counts x.0) (source_faults c.counts x.0)) (same_asked name again asked o e f) r
+-- what holds of what was asked for
+pub holds_as : (Holds : Asked → Type 0) (x asks : Asked) (o : Option Asked) → Some x ≡ o → o ≡ Some asks → Holds x → Holds asks
+holds_as Holds x asks o e f h = subst Holds (same_asked x asks o e f) h
 
 pub arm_rose_behind : (a b c : YardSeen) → OnlyReads a b → (path : List ℕ) × Rose (arm_faults b.counts path) (arm_faults c.counts path) → (path : List ℕ) × Rose (arm_faults a.counts path) (arm_faults c.counts path)
 arm_rose_behind a b c o (path, r) = (path, subst (λ (n : ℕ). Rose n (arm_faults c.counts path)) ((o.untouched.unopened.counts path).faults) r)

@@ -4,3 +4,4 @@ pub mod Still
 pub mod Simulation
 pub mod Calls
 pub mod Runs
+pub mod Sums

@@ -1,23 +1,32 @@
--- What a command says and does that runs the plan of its parameter file without journals.
-use Rattle.std.specs.Prelude.{◌≡◌, ℕ, ◌||◌, Bool, false, IsTrue, List, [], map, Option, Err}
+-- What a command says and does that runs the plan of its parameter file.
+use Rattle.std.specs.Prelude.{◌≡◌, ◌≢◌, ℕ, ◌||◌, Bool, false, IsTrue, List, [], map, Option, Err}
 use Rattle.vd_outside.specs.Causes.{Rose}
 use Rattle.vd_outside.specs.Clocks.{ClockSeen}
 use Rattle.vd_arm.specs.Arm.{PassSeen}
 use Rattle.vd_yard.specs.Out.{AtSource}
 use Rattle.vd_yard.specs.Counts.{good_writes, source_faults}
 use Rattle.vd_yard.specs.Yard.{YardSeen, is_there}
+use Rattle.plan_types.specs.Valid.{IsPlan}
 use Rattle.plan_types.specs.declared.plan.Plan.{Plan}
 use Rattle.plan_file.specs.Files.{PlansTo}
 use Rattle.key_state.specs.Quiet.{quiet_seen}
+use Rattle.key_state.specs.declared.seen.BookSeen.{BookSeen}
 use Rattle.run_report.specs.Lines.{cannot_open_text, cannot_read_text}
 use Rattle.run_report.specs.Says.{Printing, Says, printing}
 use Rattle.run_report.specs.declared.status.Status.{Status}
 use Rattle.run_report.specs.declared.status.Status.TheVariants as status
 use Rattle.still_store.specs.Frame.{Keeps}
 use Rattle.plan_hands.specs.Stores.{with_books}
-use Rattle.plan_runs.specs.Quiet.{RunsQuietly, unwritten}
+use Rattle.plan_journaled.specs.Journaled.{RunsJournaled, StandClosed}
+use Rattle.plan_journals.specs.Closing.{WentWell}
+use Rattle.plan_journals.specs.Growth.{ChangesOnlyJournals, SomeRose}
+use Rattle.plan_journals.specs.Open.{new_starts}
+use Rattle.plan_runs.specs.Quiet.{CanEndRun, RunsQuietly, unwritten}
 use Rattle.plan_runs.specs.Stages.{Stage, stage}
 use Rattle.vdbench_top.specs.Still.{AreBytesOf, Ends, IsPlanOf, IsUntouched}
+use Rattle.vdbench_top.specs.Words.{Asked}
+use Rattle.vdbench_top.specs.declared.words.Keeping.{Keeping}
+use Rattle.vdbench_top.specs.declared.words.Keeping.TheVariants as keeping
 
 -- a plan whose runs read again what they wrote, also where only the words ask for it
 abbrev pub rereading : Bool → Plan → Plan
@@ -38,18 +47,53 @@ pub data HasNoPlan (old new : YardSeen) (file text : List ℕ) (result : Status)
   refused : (bytes : List ℕ) → AreBytesOf old file bytes → PlansTo bytes (Err text) → result ≡ status.Parameter → HasNoPlan old new file text result
   unkept : text ≡ [] → result ≡ status.NoMemory → HasNoPlan old new file text result
 
--- What is said over a parameter file by a command that runs its plan without journals: why there is no plan, or what its runs say.
-pub data RunsFile {P : Type 0} (pass_seen : P → PassSeen) (before after : Stage) (again : Bool) (file text : List ℕ) (result : Status) : Type 0 where
-  no_plan : OnlyReads before.yard after.yard → HasNoPlan before.yard after.yard file text result → after.clock ≡ before.clock
-      → Says before.printing after.printing text → RunsFile pass_seen before after again file text result
-  ran : (plan : Plan) → IsPlanOf before.yard file plan → (read : YardSeen) → OnlyReads before.yard read
-      → RunsQuietly pass_seen quiet_seen (rereading again plan) (stage (with_books (map unwritten plan.stores)) read before.clock 0 before.printing) after text result
-      → RunsFile pass_seen before after again file text result
+-- What becomes of the kept disks where the runs of a plan go over new journals. The disk at a path is as it was, only read, or what is left
+-- of the new journal of one of the plan's stores; with a status of 0, 1 or 2 each of these journals stands closed, with all records of its
+-- book; and that of a failed journal comes only where the count of faults of one of their disks rose.
+pub record KeepsJournals (plan : Plan) (old new : YardSeen) (result : Status) : Type 0 where
+  pub grows : ChangesOnlyJournals (new_starts plan.journal_sectors plan.stores) old.disks new.disks
+  pub closed : WentWell result → IsTrue old.tells.keeps_disks → StandClosed plan old new
+  pub failed : result ≡ status.Journal → IsTrue old.tells.keeps_disks → SomeRose plan.stores old.disks new.disks
 
--- A command that runs its plan without journals: it ends by the lines of its status, whatever it had to say before.
-pub record RunCall {P : Type 0} (pass_seen : P → PassSeen) (old new : YardSeen) (clock_before clock_after : ClockSeen) (taken_before taken_after : Option (List ℕ)) (faults_before faults_after : ℕ) (again : Bool) (file : List ℕ) (result : Status) : Type 0 where
+-- What is said over a parameter file by a command that runs its plan: why there is no plan, or what its runs say, without journals or over
+-- new ones.
+pub data RunsFile {P B : Type 0} (pass_seen : P → PassSeen) (book_seen : B → BookSeen) (before after : Stage) (asks : Asked) (text : List ℕ) (result : Status) : Type 0 where
+  no_plan : OnlyReads before.yard after.yard → HasNoPlan before.yard after.yard asks.file text result → after.clock ≡ before.clock
+      → Says before.printing after.printing text → RunsFile pass_seen book_seen before after asks text result
+  ran : (plan : Plan) → asks.keeping ≡ keeping.Nothing → IsPlanOf before.yard asks.file plan → IsPlan (rereading asks.again plan) → (read : YardSeen) → OnlyReads before.yard read
+      → RunsQuietly pass_seen quiet_seen (rereading asks.again plan) (stage (with_books (map unwritten plan.stores)) read before.clock 0 before.printing) after text result
+      → RunsFile pass_seen book_seen before after asks text result
+  ran_journaled : (plan : Plan) → asks.keeping ≡ keeping.NewJournals → IsPlanOf before.yard asks.file plan → IsPlan (rereading asks.again plan) → (read : YardSeen) → OnlyReads before.yard read
+      → RunsJournaled pass_seen book_seen (rereading asks.again plan) (stage [] read before.clock 0 before.printing) after text result
+      → Says before.printing after.printing text → KeepsJournals plan before.yard after.yard result → RunsFile pass_seen book_seen before after asks text result
+
+-- A command that runs its plan: it ends by the lines of its status, whatever it had to say before.
+pub record RunCall {P B : Type 0} (pass_seen : P → PassSeen) (book_seen : B → BookSeen) (old new : YardSeen) (clock_before clock_after : ClockSeen) (taken_before taken_after : Option (List ℕ)) (faults_before faults_after : ℕ) (asks : Asked) (result : Status) : Type 0 where
   pub text : List ℕ
   pub said : Status
   pub last : Printing
-  pub runs : RunsFile pass_seen (stage [] old clock_before 0 (printing false taken_before faults_before)) (stage [] new clock_after 0 last) again file text said
+  pub runs : RunsFile pass_seen book_seen (stage [] old clock_before 0 (printing false taken_before faults_before)) (stage [] new clock_after 0 last) asks text said
   pub ends : Ends text said result taken_before taken_after
+
+-- What becomes of the kept disks over a parameter file: without a plan they stay.
+pub data MakesJournals (old new : YardSeen) (file : List ℕ) (result : Status) : Type 0 where
+  without_plan : new.disks ≡ old.disks → (WentWell result → ⊥) → (result ≡ status.Journal → ⊥) → MakesJournals old new file result
+  over_plan : (plan : Plan) → IsPlanOf old file plan → KeepsJournals plan old new result → MakesJournals old new file result
+
+-- How a command may end whose plan was run over new journals, but for a failed output: never by a status of words, or of what a journal has
+-- in it.
+pub record CanEndJournaled (result : Status) : Type 0 where
+  pub no_usage : result ≢ status.Usage
+  pub no_output : result ≢ status.Sink
+  pub none_missing : result ≢ status.NoJournal
+  pub none_damaged : result ≢ status.Damaged
+  pub none_mismatched : result ≢ status.Mismatch
+
+-- How a command may end that runs its plan, by how it keeps what was written.
+abbrev pub CanEndAs : Keeping → Status → Type 0
+CanEndAs keeping.Nothing result = CanEndRun result
+CanEndAs keeping.NewJournals result = CanEndJournaled result
+
+-- It isn't one of the two statuses of a journal that hide whether an arm failed.
+abbrev pub NoJournalEnd : Status → Type 0
+NoJournalEnd result = (result ≢ status.Journal) × (result ≢ status.EpochEnd)

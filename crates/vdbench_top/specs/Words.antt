@@ -1,11 +1,13 @@
 -- What the words of a command ask for, of what is built so far.
-use Rattle.std.specs.Prelude.{ℕ, Bool, true, false, List, Option, Some, None, if◌then◌else◌, ◌||◌, codes, take, drop, slice_get}
+use Rattle.std.specs.Prelude.{ℕ, Bool, true, false, List, Option, Some, None, if◌then◌else◌, ◌||◌, codes, take, drop, slice_get, is_some}
 use Rattle.std.specs.Option.{option_map}
 use Rattle.std.specs.Str.{bytes_eq}
 use Rattle.command_words.specs.Words.{command_said}
 use Rattle.command_words.specs.declared.command.Command.{Command}
 use Rattle.command_words.specs.declared.command.Mode.{Mode}
 use Rattle.command_words.specs.declared.command.Mode.TheVariants as mode
+use Rattle.vdbench_top.specs.declared.words.Keeping.{Keeping}
+use Rattle.vdbench_top.specs.declared.words.Keeping.TheVariants as keeping
 
 -- a mode that changes nothing outside
 abbrev pub is_still : Mode → Bool
@@ -16,17 +18,17 @@ is_still mode.Validate = false
 is_still mode.Journal = false
 is_still mode.Recover = false
 
--- a mode that runs a plan and keeps no journal
-abbrev pub runs_quietly : Mode → Bool
-runs_quietly mode.Validate = true
-runs_quietly mode.Show = false
-runs_quietly mode.RecoverOnly = false
-runs_quietly (mode.Simulate n) = false
-runs_quietly mode.Journal = false
-runs_quietly mode.Recover = false
+-- how the runs of a mode keep account of their writes: not at all, or in journals that are made anew; other modes make no runs
+abbrev pub keeping_of : Mode → Option Keeping
+keeping_of mode.Validate = Some keeping.Nothing
+keeping_of mode.Journal = Some keeping.NewJournals
+keeping_of mode.Show = None
+keeping_of mode.RecoverOnly = None
+keeping_of (mode.Simulate n) = None
+keeping_of mode.Recover = None
 
 abbrev pub is_built : Mode → Bool
-is_built mode = is_still mode || runs_quietly mode
+is_built mode = is_still mode || is_some (keeping_of mode)
 
 abbrev pub built_only : Option Command → Option Command
 built_only None = None
@@ -93,14 +95,23 @@ shows_by (Some command) = is_show command.mode
 abbrev pub shows_plan : List (List ℕ) → Bool
 shows_plan words = shows_by (command_built words)
 
--- the parameter file of a command that runs its plan, and whether the words ask that what was written is read again
-abbrev pub run_in : List (List ℕ) → Command → Option (List ℕ × Bool)
-run_in words command =
-    if runs_quietly command.mode then option_map (λ name. (name, command.reread)) (name_at words command.file) else None
+-- what a command asks for that runs its plan: the parameter file's name, whether what was written is to be read again, and how account is kept
+pub record Asked : Type 0 where
+  pub file : List ℕ
+  pub again : Bool
+  pub keeping : Keeping
 
-abbrev pub run_by : List (List ℕ) → Option Command → Option (List ℕ × Bool)
+abbrev pub asked : List ℕ → Bool → Keeping → Asked
+asked file again keeping = record { file = file; again = again; keeping = keeping }
+
+abbrev pub asked_in : List (List ℕ) → Option ℕ → Bool → Option Keeping → Option Asked
+asked_in words file again None = None
+asked_in words file again (Some keeping) = option_map (λ name. asked name again keeping) (name_at words file)
+
+abbrev pub run_by : List (List ℕ) → Option Command → Option Asked
 run_by words None = None
-run_by words (Some command) = run_in words command
+run_by words (Some command) = asked_in words command.file command.reread (keeping_of command.mode)
 
-abbrev pub run_of : List (List ℕ) → Option (List ℕ × Bool)
+-- what words ask for that are a command which runs its plan
+abbrev pub run_of : List (List ℕ) → Option Asked
 run_of words = run_by words (command_built words)

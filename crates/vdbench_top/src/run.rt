@@ -1,28 +1,34 @@
 // A command that runs its plan.
-ghost use Rattle.std.specs.Prelude.{◌≡◌, ◌≢◌, ◌⊎◌, [], Bool, IfErr, IfOk, IsTrue, List, None, OnOk, Some, map, string_bytes, ℕ};
+ghost use Rattle.std.specs.Prelude.{◌≡◌, ◌≢◌, ◌⊎◌, [], IfErr, IfOk, IsTrue, List, None, OnOk, Some, map, string_bytes, ℕ};
 ghost use Rattle.vd_outside.specs.Causes.{Rose};
 ghost use Rattle.vd_yard.specs.Counts.{arm_faults, source_faults};
-ghost use Rattle.vd_yard.specs.Yard.{StaysThere};
+ghost use Rattle.vd_yard.specs.Out.{AtSource};
+ghost use Rattle.vd_yard.specs.Yard.{StaysThere, is_there};
 ghost use Rattle.plan_types.specs.Valid.{IsPlan};
 ghost use Rattle.run_report.specs.Says.{Says, printing};
-ghost use Rattle.plan_runs.specs.Quiet.{CanEndRun};
 ghost use Rattle.plan_runs.specs.Stages.{stage};
 ghost use Rattle.vdbench_top.specs.Calls.{StillCall};
-ghost use Rattle.vdbench_top.specs.Runs.{HasNoPlan, OnlyReads, RunCall, RunsFile, rereading};
+ghost use Rattle.vdbench_top.specs.Runs.{CanEndAs, HasNoPlan, MakesJournals, NoJournalEnd, OnlyReads, RunCall, RunsFile, rereading};
 ghost use Rattle.vdbench_top.specs.Still.{IsPlanOf};
-ghost use Rattle.vdbench_top.specs.Words.{run_of};
+ghost use Rattle.vdbench_top.specs.Sums.{CallAddsUp};
+ghost use Rattle.vdbench_top.specs.Words.{Asked, asked, run_of};
 
 use crate::source::{Unread, read_file};
 use crate::still::{end, vdbench_still};
-use crate::words::run_of_words;
+use crate::words::{Keeping, run_of_words};
+use journal_core::JournalBook;
+use key_state::{Book, QuietBook};
 use plan_file::{Unplanned, plan_of_file};
+use plan_journaled::run_journaled;
 use plan_runs::run_quietly;
+use plan_totals::runs_add_up;
 use plan_types::Plan;
 use run_report::{Printer, Status, cannot_open_line, cannot_read_line};
 use std::alloc::Global;
 use std::sync::Wait;
 use std::thread::Threads;
 use still_plan::say_line;
+use vd_arm::Arm;
 use vd_outside::{Sink, Text, Turnstile, Twin};
 use vd_yard::Yard;
 
@@ -73,65 +79,78 @@ fn with_rereads(plan: Plan, again: bool) -> Plan
     plan
 }
 
-/// The runs of the plan of a parameter file, without journals.
+/// The runs of the plan of a parameter file, without journals or over new ones.
 fn run_file<Y: Yard, S: Sink, C: Twin, T: Turnstile, R: Threads + Wait + Sync>(
     rt: &R,
     alloc: Global,
     yard: &mut Y,
     file: &Text,
     again: bool,
+    keeping: Keeping,
     clock: &mut C,
     gate: &T,
     printer: &mut Printer,
     out: &mut S,
 ) -> Status
-    ensures runs { (text : List ℕ) × RunsFile Y.Arm.Pass.seen
+where
+    Y::Disk: Send,
+    ensures runs { (text : List ℕ) × RunsFile Y.Arm.Pass.seen ⟦<JournalBook<Y::Disk> as Book>⟧.seen
         (stage [] (Y.seen yard.old) (C.seen clock.old) 0 (printing printer.old.failed (S.taken out.old) (S.faults out.old)))
-        (stage [] (Y.seen yard.new) (C.seen clock.new) 0 (printing printer.new.failed (S.taken out.new) (S.faults out.new))) again file.now text result }
+        (stage [] (Y.seen yard.new) (C.seen clock.new) 0 (printing printer.new.failed (S.taken out.new) (S.faults out.new))) (asked file.now again keeping) text result }
     ensures out { (Y.seen yard.new).out ≡ (Y.seen yard.old).out }
     ensures tells { (Y.seen yard.new).tells ≡ (Y.seen yard.old).tells }
     ensures willing { IsTrue (Y.seen yard.old).willing → IsTrue (Y.seen yard.new).willing }
+    ensures opens { IsTrue (Y.seen yard.old).willing → IsTrue (is_there (Y.seen yard.old).files AtSource file.now) → result ≢ Status.Yard }
     ensures files { StaysThere (Y.seen yard.old).files (Y.seen yard.new).files }
-    ensures disks { (Y.seen yard.new).disks ≡ (Y.seen yard.old).disks }
+    ensures disks { keeping ≡ Keeping.Nothing → (Y.seen yard.new).disks ≡ (Y.seen yard.old).disks }
+    ensures journals { keeping ≡ Keeping.NewJournals → MakesJournals (Y.seen yard.old) (Y.seen yard.new) file.now result }
     ensures yard_fault { result ≡ Status.Yard → Rose (Y.seen yard.old).faults (Y.seen yard.new).faults }
     ensures yard_quiet { result ≢ Status.Yard → result ≢ Status.NoMemory → (Y.seen yard.new).faults ≡ (Y.seen yard.old).faults }
     ensures source_fault { result ≡ Status.Source → Rose (source_faults (Y.seen yard.old).counts file.now) (source_faults (Y.seen yard.new).counts file.now) }
     ensures source_quiet { result ≢ Status.Source → result ≢ Status.NoMemory → (path : List ℕ) → source_faults (Y.seen yard.new).counts path ≡ source_faults (Y.seen yard.old).counts path }
     ensures device_fault { result ≡ Status.Device → (path : List ℕ) × Rose (arm_faults (Y.seen yard.old).counts path) (arm_faults (Y.seen yard.new).counts path) }
-    ensures device_quiet { result ≢ Status.Device → result ≢ Status.Yard → result ≢ Status.NoMemory → (path : List ℕ) → arm_faults (Y.seen yard.new).counts path ≡ arm_faults (Y.seen yard.old).counts path }
-    ensures can { CanEndRun result }
+    ensures device_quiet { result ≢ Status.Device → result ≢ Status.Yard → result ≢ Status.NoMemory → (keeping ≡ Keeping.NewJournals → NoJournalEnd result) → (path : List ℕ) → arm_faults (Y.seen yard.new).counts path ≡ arm_faults (Y.seen yard.old).counts path }
+    ensures can { CanEndAs keeping result }
 {
     let plan = match plan_of(alloc, yard, file, printer, out) {
         Ok(plan) => with_rereads(plan, again),
         Err(status) => return status,
     };
-    run_quietly(rt, alloc, &plan, yard, clock, gate, printer, out)
+    match keeping {
+        Keeping::Nothing => run_quietly(rt, alloc, &plan, yard, clock, gate, printer, out),
+        Keeping::NewJournals => run_journaled(rt, alloc, &plan, yard, clock, gate, printer, out),
+    }
 }
 
-/// The runs of the plan of the parameter file of this name, without journals.
+/// The runs of the plan of the parameter file of this name, without journals or over new ones.
 fn run_named<Y: Yard, S: Sink, C: Twin, T: Turnstile, R: Threads + Wait + Sync>(
     rt: &R,
     alloc: Global,
     yard: &mut Y,
     name: &str,
     again: bool,
+    keeping: Keeping,
     clock: &mut C,
     gate: &T,
     out: &mut S,
 ) -> Status
-    ensures call { RunCall Y.Arm.Pass.seen (Y.seen yard.old) (Y.seen yard.new) (C.seen clock.old) (C.seen clock.new) (S.taken out.old) (S.taken out.new) (S.faults out.old) (S.faults out.new) again name.now result }
+where
+    Y::Disk: Send,
+    ensures call { RunCall Y.Arm.Pass.seen ⟦<JournalBook<Y::Disk> as Book>⟧.seen (Y.seen yard.old) (Y.seen yard.new) (C.seen clock.old) (C.seen clock.new) (S.taken out.old) (S.taken out.new) (S.faults out.old) (S.faults out.new) (asked name.now again keeping) result }
     ensures out { (Y.seen yard.new).out ≡ (Y.seen yard.old).out }
     ensures tells { (Y.seen yard.new).tells ≡ (Y.seen yard.old).tells }
     ensures willing { IsTrue (Y.seen yard.old).willing → IsTrue (Y.seen yard.new).willing }
+    ensures opens { IsTrue (Y.seen yard.old).willing → IsTrue (is_there (Y.seen yard.old).files AtSource name.now) → result ≢ Status.Yard }
     ensures files { StaysThere (Y.seen yard.old).files (Y.seen yard.new).files }
-    ensures disks { (Y.seen yard.new).disks ≡ (Y.seen yard.old).disks }
+    ensures disks { keeping ≡ Keeping.Nothing → (Y.seen yard.new).disks ≡ (Y.seen yard.old).disks }
+    ensures journals { keeping ≡ Keeping.NewJournals → MakesJournals (Y.seen yard.old) (Y.seen yard.new) name.now result }
     ensures yard_fault { result ≡ Status.Yard → Rose (Y.seen yard.old).faults (Y.seen yard.new).faults }
     ensures yard_quiet { result ≢ Status.Yard → result ≢ Status.Sink → result ≢ Status.NoMemory → (Y.seen yard.new).faults ≡ (Y.seen yard.old).faults }
     ensures source_fault { result ≡ Status.Source → Rose (source_faults (Y.seen yard.old).counts name.now) (source_faults (Y.seen yard.new).counts name.now) }
     ensures source_quiet { result ≢ Status.Source → result ≢ Status.Sink → result ≢ Status.NoMemory → (path : List ℕ) → source_faults (Y.seen yard.new).counts path ≡ source_faults (Y.seen yard.old).counts path }
     ensures device_fault { result ≡ Status.Device → (path : List ℕ) × Rose (arm_faults (Y.seen yard.old).counts path) (arm_faults (Y.seen yard.new).counts path) }
-    ensures device_quiet { result ≢ Status.Device → result ≢ Status.Yard → result ≢ Status.Sink → result ≢ Status.NoMemory → (path : List ℕ) → arm_faults (Y.seen yard.new).counts path ≡ arm_faults (Y.seen yard.old).counts path }
-    ensures can { (result ≡ Status.Sink) ⊎ CanEndRun result }
+    ensures device_quiet { result ≢ Status.Device → result ≢ Status.Yard → result ≢ Status.Sink → result ≢ Status.NoMemory → (keeping ≡ Keeping.NewJournals → NoJournalEnd result) → (path : List ℕ) → arm_faults (Y.seen yard.new).counts path ≡ arm_faults (Y.seen yard.old).counts path }
+    ensures can { (result ≡ Status.Sink) ⊎ CanEndAs keeping result }
     ensures sink_fault { result ≡ Status.Sink → Rose (S.faults out.old) (S.faults out.new) }
     ensures sink_quiet { result ≢ Status.Sink → S.faults out.new ≡ S.faults out.old }
 {
@@ -145,6 +164,7 @@ fn run_named<Y: Yard, S: Sink, C: Twin, T: Turnstile, R: Threads + Wait + Sync>(
         yard,
         &file,
         again,
+        keeping,
         clock,
         gate,
         &mut printer,
@@ -153,8 +173,8 @@ fn run_named<Y: Yard, S: Sink, C: Twin, T: Turnstile, R: Threads + Wait + Sync>(
     end(status, &mut printer, out)
 }
 
-/// A command: a still one, or the runs of a plan without journals. `words` are those after the program's name. It answers the status that
-/// the command ends with. Workers may wait for a store's book, and rest until their turns are due.
+/// A command: a still one, or the runs of a plan, without journals or over new ones. `words` are those after the program's name. It answers
+/// the status that the command ends with. Workers may wait for a store's book, and rest until their turns are due.
 pub fn vdbench<Y: Yard, S: Sink, C: Twin, T: Turnstile, R: Threads + Wait + Sync>(
     rt: &R,
     alloc: Global,
@@ -164,39 +184,63 @@ pub fn vdbench<Y: Yard, S: Sink, C: Twin, T: Turnstile, R: Threads + Wait + Sync
     clock: &mut C,
     gate: &T,
 ) -> Status
+where
+    Y::Disk: Send,
     // Where the words ask for no runs it is a still command, and the clock is as it was.
     ensures still { run_of (map string_bytes words.now) ≡ None → StillCall (map string_bytes words.now) (Y.seen yard.old) (Y.seen yard.new) (S.taken out.old) (S.taken out.new) (S.faults out.old) (S.faults out.new) result }
     ensures still_clock { run_of (map string_bytes words.now) ≡ None → C.seen clock.new ≡ C.seen clock.old }
 
     // Else text and status are those of the runs of its parameter file's plan, or of what kept them from starting.
-    ensures runs { (asked : List ℕ × Bool) → run_of (map string_bytes words.now) ≡ Some asked →
-        RunCall Y.Arm.Pass.seen (Y.seen yard.old) (Y.seen yard.new) (C.seen clock.old) (C.seen clock.new) (S.taken out.old) (S.taken out.new) (S.faults out.old) (S.faults out.new) asked.1 asked.0 result }
+    ensures runs { (asks : Asked) → run_of (map string_bytes words.now) ≡ Some asks →
+        RunCall Y.Arm.Pass.seen ⟦<JournalBook<Y::Disk> as Book>⟧.seen (Y.seen yard.old) (Y.seen yard.new) (C.seen clock.old) (C.seen clock.new) (S.taken out.old) (S.taken out.new) (S.faults out.old) (S.faults out.new) asks result }
 
-    // On every way out nothing of this call is out, and what the yard tells stays. Runs without journals touch no journal.
+    // On every way out nothing of this call is out, and what the yard tells stays.
     ensures out { (Y.seen yard.new).out ≡ (Y.seen yard.old).out }
     ensures tells { (Y.seen yard.new).tells ≡ (Y.seen yard.old).tells }
     ensures willing { IsTrue (Y.seen yard.old).willing → IsTrue (Y.seen yard.new).willing }
     ensures files { StaysThere (Y.seen yard.old).files (Y.seen yard.new).files }
-    ensures disks { (asked : List ℕ × Bool) → run_of (map string_bytes words.now) ≡ Some asked → (Y.seen yard.new).disks ≡ (Y.seen yard.old).disks }
+    // A willing yard that has the parameter file refuses no runs.
+    ensures opens { (asks : Asked) → run_of (map string_bytes words.now) ≡ Some asks → IsTrue (Y.seen yard.old).willing →
+        IsTrue (is_there (Y.seen yard.old).files AtSource asks.file) → result ≢ Status.Yard }
 
-    // Each status of an outside fault has its cause, over whatever yard and output, and with each other status, want of memory and a failed
-    // output aside, nothing of that kind failed; that the yard refused to open something may hide that an arm failed in an earlier run, whose
-    // lines then tell.
+    // Runs without journals touch no journal. Over new ones, of the kept disks only those of the plan's journals change: from the end of its
+    // opening on each image that is told recovers to one legal history, and before it, of a disk that was at rest, to what it gave, no journal,
+    // or the new one. With a status of 0, 1 or 2 each stands closed, and that of a failed journal has its cause where the yard tells its disks;
+    // that none failed with another status isn't said.
+    ensures disks { (asks : Asked) → run_of (map string_bytes words.now) ≡ Some asks → asks.keeping ≡ Keeping.Nothing → (Y.seen yard.new).disks ≡ (Y.seen yard.old).disks }
+    ensures journals { (asks : Asked) → run_of (map string_bytes words.now) ≡ Some asks → asks.keeping ≡ Keeping.NewJournals → MakesJournals (Y.seen yard.old) (Y.seen yard.new) asks.file result }
+
+    // Each status of another outside fault has its cause, over whatever yard and output, and with each other status, want of memory and a
+    // failed output aside, nothing of that kind failed; that the yard refused to open something, or that a journal failed or is at its end, may hide
+    // that an arm failed before, whose lines then tell.
     ensures yard_fault { result ≡ Status.Yard → Rose (Y.seen yard.old).faults (Y.seen yard.new).faults }
     ensures yard_quiet { result ≢ Status.Yard → result ≢ Status.Sink → result ≢ Status.NoMemory → (Y.seen yard.new).faults ≡ (Y.seen yard.old).faults }
-    ensures source_fault { (asked : List ℕ × Bool) → run_of (map string_bytes words.now) ≡ Some asked → result ≡ Status.Source →
-        Rose (source_faults (Y.seen yard.old).counts asked.0) (source_faults (Y.seen yard.new).counts asked.0) }
+    ensures source_fault { (asks : Asked) → run_of (map string_bytes words.now) ≡ Some asks → result ≡ Status.Source →
+        Rose (source_faults (Y.seen yard.old).counts asks.file) (source_faults (Y.seen yard.new).counts asks.file) }
     ensures source_quiet { result ≢ Status.Source → result ≢ Status.Sink → result ≢ Status.NoMemory → (path : List ℕ) → source_faults (Y.seen yard.new).counts path ≡ source_faults (Y.seen yard.old).counts path }
     ensures device_fault { result ≡ Status.Device → (path : List ℕ) × Rose (arm_faults (Y.seen yard.old).counts path) (arm_faults (Y.seen yard.new).counts path) }
-    ensures device_quiet { result ≢ Status.Device → result ≢ Status.Yard → result ≢ Status.Sink → result ≢ Status.NoMemory → (path : List ℕ) → arm_faults (Y.seen yard.new).counts path ≡ arm_faults (Y.seen yard.old).counts path }
+    ensures device_quiet { result ≢ Status.Device → result ≢ Status.Yard → result ≢ Status.Sink → result ≢ Status.NoMemory
+        → ((asks : Asked) → run_of (map string_bytes words.now) ≡ Some asks → asks.keeping ≡ Keeping.NewJournals → NoJournalEnd result)
+        → (path : List ℕ) → arm_faults (Y.seen yard.new).counts path ≡ arm_faults (Y.seen yard.old).counts path }
     ensures sink_fault { result ≡ Status.Sink → Rose (S.faults out.old) (S.faults out.new) }
     ensures sink_quiet { result ≢ Status.Sink → S.faults out.new ≡ S.faults out.old }
 
-    // Runs without journals end by none of the statuses of journals or of words.
-    ensures can { (asked : List ℕ × Bool) → run_of (map string_bytes words.now) ≡ Some asked → (result ≡ Status.Sink) ⊎ CanEndRun result }
+    // What the runs printed adds up: with its errors, its stores' books, and the counts of their paths. And where the yard tells the data that
+    // it keeps, none of these commands ends by the status of a corrupt block.
+    ensures adds_up { (asks : Asked) → run_of (map string_bytes words.now) ≡ Some asks →
+        (call : RunCall Y.Arm.Pass.seen ⟦<JournalBook<Y::Disk> as Book>⟧.seen (Y.seen yard.old) (Y.seen yard.new) (C.seen clock.old) (C.seen clock.new) (S.taken out.old) (S.taken out.new) (S.faults out.old) (S.faults out.new) asks result) → CallAddsUp call }
+    ensures sound { (asks : Asked) → run_of (map string_bytes words.now) ≡ Some asks → IsTrue (Y.seen yard.old).tells.keeps_contents → result ≢ Status.Corrupt }
+
+    // Runs without journals end by none of the statuses of journals or of words; those over new journals by none of words or of what a
+    // journal has in it.
+    ensures can { (asks : Asked) → run_of (map string_bytes words.now) ≡ Some asks → (result ≡ Status.Sink) ⊎ CanEndAs asks.keeping result }
 {
+    runs_add_up::<<Y::Arm as Arm>::Pass, QuietBook>();
+    runs_add_up::<<Y::Arm as Arm>::Pass, JournalBook<Y::Disk>>();
     match run_of_words(words) {
-        Some((name, again)) => run_named(rt, alloc, yard, name, again, clock, gate, out),
+        Some((name, again, keeping)) => run_named(
+            rt, alloc, yard, name, again, keeping, clock, gate, out,
+        ),
         None => vdbench_still(alloc, words, yard, out),
     }
 }

@@ -1,9 +1,18 @@
 // What the words of a command ask for, of what is built so far.
 ghost use Rattle.std.specs.Prelude.{◌≡◌, IfSome, Some, None, map, string_bytes, length};
 ghost use Rattle.std.specs.Option.{option_map};
-ghost use Rattle.vdbench_top.specs.Words.{command_built, file_of, is_built as built_mode, is_show as shows_mode, is_still as still_mode, name_at as name_at_word, name_in as name_in_word, run_of, runs_quietly as quiet_mode, shows_plan as plan_shown, steps_of};
+ghost use Rattle.vdbench_top.specs.Words.{command_built, file_of, is_built as built_mode, is_show as shows_mode, asked, is_still as still_mode, keeping_of as keeping_in, name_at as name_at_word, name_in as name_in_word, run_of, shows_plan as plan_shown, steps_of};
 
 use command_words::{Command, Mode};
+
+/// How the runs of a command keep account of their writes, for the recovery after a stop.
+#[derive(Clone, Copy, Debug, PartialEq, Eq, Drop)]
+pub enum Keeping {
+    /// Not at all.
+    Nothing,
+    /// In a journal for each store, made anew.
+    NewJournals,
+}
 
 fn is_still(mode: Mode) -> bool
     ensures { result ≡ still_mode mode }
@@ -15,25 +24,27 @@ fn is_still(mode: Mode) -> bool
     }
 }
 
-fn runs_quietly(mode: Mode) -> bool
-    ensures { result ≡ quiet_mode mode }
+/// How the runs of a mode keep what was written, where it makes runs.
+fn keeping_of(mode: Mode) -> Option<Keeping>
+    ensures { result ≡ keeping_in mode }
 {
     match mode {
-        Mode::Validate => true,
-        Mode::Show | Mode::RecoverOnly => false,
-        Mode::Simulate(_) => false,
-        Mode::Journal | Mode::Recover => false,
+        Mode::Validate => Some(Keeping::Nothing),
+        Mode::Journal => Some(Keeping::NewJournals),
+        Mode::Show | Mode::RecoverOnly => None,
+        Mode::Simulate(_) => None,
+        Mode::Recover => None,
     }
 }
 
 fn is_built(mode: Mode) -> bool
     ensures { result ≡ built_mode mode }
 {
-    is_still(mode) || runs_quietly(mode)
+    is_still(mode) || keeping_of(mode).is_some()
 }
 
-/// The command that the words say, of those that are built: `-s`, `-jro`, `-sim`, and `-v`, `-vr` or none of the modes. None for all
-/// other words.
+/// The command that the words say, of those that are built: `-s`, `-jro`, `-sim`, `-j`, and `-v`, `-vr` or none of the modes. None for
+/// all other words.
 pub fn command_of(words: &[String]) -> Option<Command>
     ensures built { result ≡ command_built (map string_bytes words.now) }
     // Each command has a parameter file or a number of steps.
@@ -76,16 +87,15 @@ pub fn file_of_words(words: &[String]) -> Option<&str>
     }
 }
 
-/// The name of the parameter file, and whether what was written is to be read again, where the words are a command that runs its plan.
-pub fn run_of_words(words: &[String]) -> Option<(&str, bool)>
-    ensures { option_map (λ run. (run.0.now, run.1)) result ≡ run_of (map string_bytes words.now) }
+/// What the words ask for, where they are a command that runs its plan: the name of the parameter file, whether what was written is to be
+/// read again, and how account is kept.
+pub fn run_of_words(words: &[String]) -> Option<(&str, bool, Keeping)>
+    ensures { option_map (λ run. asked run.0.now run.1 run.2) result ≡ run_of (map string_bytes words.now) }
 {
     let command = command_of(words)?;
-    if !runs_quietly(command.mode) {
-        return None;
-    }
+    let keeping = keeping_of(command.mode)?;
     let name = name_at(words, command.file)?;
-    Some((name, command.reread))
+    Some((name, command.reread, keeping))
 }
 
 /// The number of steps, where the words ask for a schedule.

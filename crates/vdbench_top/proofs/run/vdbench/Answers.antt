@@ -1,0 +1,20 @@
+use Rattle.vdbench_top.specs.Runs.{MakesJournals}
+use Rattle.vdbench_top.specs.Words.{Asked, asked}
+use Rattle.vdbench_top.specs.declared.words.Keeping.TheVariants as keeping
+use Rattle.std.proofs.Common.{◌≡◌}
+use Rattle.vdbench_top.proofs.Runs.{holds_as}
+use Rattle.vdbench_top.proofs.Sums.{call_sound, file_adds}
+use Rattle.vdbench_top.proofs.run.vdbench.Goals as goal
+
+pub returns-in-Some-clause-journals : goal.returns-in-Some-clause-journals
+returns-in-Some-clause-journals g c asks is kept =
+    holds_as (λ (x : Asked). x.keeping ≡ keeping.NewJournals → MakesJournals (g.Y.Yard.seen c.args.yard.now) (g.Y.Yard.seen c.run_named.new.yard) x.file c.run_named.result)
+    (asked c.in-Some.name.now c.in-Some.again c.in-Some.keeping) asks _ c.in-Some.ensures is c.run_named.ensures.journals kept
+
+pub returns-in-Some-clause-adds_up : goal.returns-in-Some-clause-adds_up
+returns-in-Some-clause-adds_up g c asks is call =
+    file_adds _ _ (record { first = c.runs_add_up.ensures.first; below = c.runs_add_up.ensures.below; left_out = c.runs_add_up.ensures.left_out; text = c.runs_add_up.ensures.text; refused = c.runs_add_up.ensures.refused; errors = c.runs_add_up.ensures.errors; writes = c.runs_add_up.ensures.writes; reads = c.runs_add_up.ensures.reads; faults = c.runs_add_up.ensures.faults; good_writes = c.runs_add_up.ensures.good_writes; corrupt = c.runs_add_up.ensures.corrupt; clean = c.runs_add_up.ensures.clean; unwritten = c.runs_add_up.ensures.unwritten }) (record { first = c.runs_add_up-2.ensures.first; below = c.runs_add_up-2.ensures.below; left_out = c.runs_add_up-2.ensures.left_out; text = c.runs_add_up-2.ensures.text; refused = c.runs_add_up-2.ensures.refused; errors = c.runs_add_up-2.ensures.errors; writes = c.runs_add_up-2.ensures.writes; reads = c.runs_add_up-2.ensures.reads; faults = c.runs_add_up-2.ensures.faults; good_writes = c.runs_add_up-2.ensures.good_writes; corrupt = c.runs_add_up-2.ensures.corrupt; clean = c.runs_add_up-2.ensures.clean; unwritten = c.runs_add_up-2.ensures.unwritten }) _ _ asks call.text call.said call.runs
+
+pub returns-in-Some-clause-sound : goal.returns-in-Some-clause-sound
+returns-in-Some-clause-sound g c asks is told =
+    call_sound _ _ (record { first = c.runs_add_up.ensures.first; below = c.runs_add_up.ensures.below; left_out = c.runs_add_up.ensures.left_out; text = c.runs_add_up.ensures.text; refused = c.runs_add_up.ensures.refused; errors = c.runs_add_up.ensures.errors; writes = c.runs_add_up.ensures.writes; reads = c.runs_add_up.ensures.reads; faults = c.runs_add_up.ensures.faults; good_writes = c.runs_add_up.ensures.good_writes; corrupt = c.runs_add_up.ensures.corrupt; clean = c.runs_add_up.ensures.clean; unwritten = c.runs_add_up.ensures.unwritten }) (record { first = c.runs_add_up-2.ensures.first; below = c.runs_add_up-2.ensures.below; left_out = c.runs_add_up-2.ensures.left_out; text = c.runs_add_up-2.ensures.text; refused = c.runs_add_up-2.ensures.refused; errors = c.runs_add_up-2.ensures.errors; writes = c.runs_add_up-2.ensures.writes; reads = c.runs_add_up-2.ensures.reads; faults = c.runs_add_up-2.ensures.faults; good_writes = c.runs_add_up-2.ensures.good_writes; corrupt = c.runs_add_up-2.ensures.corrupt; clean = c.runs_add_up-2.ensures.clean; unwritten = c.runs_add_up-2.ensures.unwritten }) _ _ _ _ _ _ _ _ _ _ told c.run_named.ensures.call

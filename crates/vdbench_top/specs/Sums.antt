@@ -1,0 +1,91 @@
+-- What the runs of a command add up to, with its text and errors, its stores' books, and the counts of their paths.
+use Rattle.std.specs.Prelude.{◌≡◌, ◌≢◌, ⊤, ℕ, ◌+◌, ◌-◌, ◌^◌, ◌<◌, ◌≤◌, min, false, List, [], ◌++◌, length, map, take, Option, Some, slice_get}
+use Rattle.vd_outside.specs.Clocks.{ClockSeen}
+use Rattle.vd_arm.specs.Arm.{PassSeen}
+use Rattle.vd_yard.specs.Counts.{arm_faults, good_reads, good_writes}
+use Rattle.vd_yard.specs.Yard.{YardSeen}
+use Rattle.plan_types.specs.Valid.{IsPlan}
+use Rattle.plan_types.specs.declared.plan.Plan.{Plan}
+use Rattle.plan_types.specs.declared.store.StorePlan.{StorePlan}
+use Rattle.key_state.specs.Books.{Follows}
+use Rattle.key_state.specs.Quiet.{quiet_seen}
+use Rattle.key_state.specs.declared.seen.BookSeen.{BookSeen}
+use Rattle.claim_table.specs.Sums.{total}
+use Rattle.claim_table.specs.Views.{bad}
+use Rattle.run_report.specs.Lines.{cannot_open_text}
+use Rattle.run_report.specs.Says.{printing}
+use Rattle.run_report.specs.declared.status.Status.{Status}
+use Rattle.run_report.specs.declared.status.Status.TheVariants as status
+use Rattle.plan_hands.specs.Stores.{AreStores, book_of, with_books}
+use Rattle.plan_journaled.specs.Journaled.{RunsJournaled}
+use Rattle.plan_journaled.specs.Journaled as journaled
+use Rattle.plan_runs.specs.Quiet.{RunsQuietly, none_made, unwritten}
+use Rattle.plan_runs.specs.Quiet as quietly
+use Rattle.plan_runs.specs.Stages.{RunsMade, Stage, is_last, stage}
+use Rattle.plan_totals.specs.Made.{MadeRun, PlanRuns, StoreOf, findings_of, made_of, sum_of, texts_of}
+use Rattle.plan_totals.specs.Sentences.{RoseBy}
+use Rattle.vdbench_top.specs.Runs.{RunCall, RunsFile, no_plan, ran, ran_journaled, rereading}
+use Rattle.vdbench_top.specs.Words.{Asked}
+
+module _ {P B : Type 0} (pass_seen : P → PassSeen) (book_seen : B → BookSeen) where
+  -- One of the stores: its book went on, and has ended as many writes more as its total lines say; the good reads of its path rose by their
+  -- reads, prereads and rereads, and the arm faults by their faults at least, and not at all where they have none; and where no book and
+  -- nothing outside stopped the runs, the good writes rose by their writes, and the bad blocks by their corrupt ones.
+  pub record StoreAddsUp (all : PlanRuns pass_seen book_seen) (its : StoreOf pass_seen book_seen all) : Type 0 where
+    pub follows : Follows (book_of its.hand) (book_of its.back)
+    pub writes : RoseBy (sum_of (λ totals. totals.writes) its.place (made_of pass_seen book_seen all)) (book_of its.hand).ends (book_of its.back).ends
+    pub reads : RoseBy (sum_of (λ totals. totals.reads + totals.prereads + totals.rereads) its.place (made_of pass_seen book_seen all))
+        (good_reads all.before.yard.counts its.store.path) (good_reads all.last.yard.counts its.store.path)
+    pub faults : min (arm_faults all.before.yard.counts its.store.path + sum_of (λ totals. totals.faults) its.place (made_of pass_seen book_seen all)) (2 ^ 64 - 1)
+        ≤ arm_faults all.last.yard.counts its.store.path
+    pub no_faults : sum_of (λ totals. totals.faults) its.place (made_of pass_seen book_seen all) ≡ 0
+        → arm_faults all.last.yard.counts its.store.path ≡ arm_faults all.before.yard.counts its.store.path
+    pub good_writes : is_last all.result ≡ false → RoseBy (sum_of (λ totals. totals.writes) its.place (made_of pass_seen book_seen all))
+        (good_writes all.before.yard.counts its.store.path) (good_writes all.last.yard.counts its.store.path)
+    pub corrupt : is_last all.result ≡ false → total bad (book_of its.back).now
+        ≡ total bad (book_of its.hand).now + sum_of (λ totals. totals.corrupt) its.place (made_of pass_seen book_seen all)
+
+  -- The runs that were made are the plan's first ones, each begun below the limit of errors, and where nothing stopped them none is left
+  -- out below it; the text is theirs, and behind it the line of a file that couldn't be opened; the errors are their findings; and each
+  -- store adds up.
+  pub record RunsAddUp (all : PlanRuns pass_seen book_seen) : Type 0 where
+    pub first : map (λ (one : MadeRun). one.run) (made_of pass_seen book_seen all) ≡ take (length (made_of pass_seen book_seen all)) all.plan.runs
+    pub below : (i : ℕ) → i < length (made_of pass_seen book_seen all) → all.before.errors + findings_of (take i (made_of pass_seen book_seen all)) < all.plan.data_errors
+    pub left_out : is_last all.result ≡ false → length (made_of pass_seen book_seen all) < length all.plan.runs → all.plan.data_errors ≤ all.last.errors
+    pub text : all.result ≢ status.NoMemory → all.result ≢ status.Yard → all.text ≡ texts_of all.plan.stores (made_of pass_seen book_seen all)
+    pub refused : all.result ≡ status.Yard → (place : ℕ) × (store : StorePlan) × (slice_get all.plan.stores place ≡ Some store)
+        × (all.text ≡ texts_of all.plan.stores (made_of pass_seen book_seen all) ++ cannot_open_text store.path)
+    pub errors : all.last.errors ≡ all.before.errors + findings_of (made_of pass_seen book_seen all)
+    pub stores : (its : StoreOf pass_seen book_seen all) → StoreAddsUp all its
+
+  -- the same of runs from a stage with a hand for each store of a valid plan
+  abbrev pub AddUp : (plan : Plan) (before last : Stage) (text : List ℕ) (result : Status) → RunsMade pass_seen book_seen plan plan.runs before last text result → Type 0
+  AddUp plan before last text result runs =
+      (valid : IsPlan plan) (stores : AreStores plan before.hands)
+      → RunsAddUp (record { plan = plan; before = before; last = last; text = text; result = result; valid = valid; stores = stores; runs = runs })
+
+-- What was made adds up: of runs without journals, and of runs over new ones.
+abbrev pub QuietlyAddUp : {P B : Type 0} (pass_seen : P → PassSeen) (book_seen : B → BookSeen) (plan : Plan) (before after : Stage) (text : List ℕ) (result : Status)
+    → RunsQuietly pass_seen book_seen plan before after text result → Type 0
+QuietlyAddUp pass_seen book_seen plan before after text result (quietly.all_made last runs hands back clock printing) = AddUp pass_seen book_seen plan before last text result runs
+QuietlyAddUp pass_seen book_seen plan before after text result (none_made yard clock printing none memory) = ⊤
+
+abbrev pub JournaledAddUp : {P B : Type 0} (pass_seen : P → PassSeen) (book_seen : B → BookSeen) (plan : Plan) (before after : Stage) (text : List ℕ) (result : Status)
+    → RunsJournaled pass_seen book_seen plan before after text result → Type 0
+JournaledAddUp pass_seen book_seen plan before after text result (journaled.ran books opened said all_open rest closed texts) =
+    AddUp pass_seen book_seen plan (stage (with_books books) opened before.clock 0 said) closed.last closed.runs_text closed.work closed.made
+JournaledAddUp pass_seen book_seen plan before after text result other = ⊤
+
+-- All runs of a command add up.
+abbrev pub FileAddsUp : {P B : Type 0} (pass_seen : P → PassSeen) (book_seen : B → BookSeen) (before after : Stage) (asks : Asked) (text : List ℕ) (result : Status)
+    → RunsFile pass_seen book_seen before after asks text result → Type 0
+FileAddsUp pass_seen book_seen before after asks text result (no_plan reads none clock says) = ⊤
+FileAddsUp pass_seen book_seen before after asks text result (ran plan kept is valid read reads runs) =
+    QuietlyAddUp pass_seen quiet_seen (rereading asks.again plan) (stage (with_books (map unwritten plan.stores)) read before.clock 0 before.printing) after text result runs
+FileAddsUp pass_seen book_seen before after asks text result (ran_journaled plan kept is valid read reads runs says keeps) =
+    JournaledAddUp pass_seen book_seen (rereading asks.again plan) (stage [] read before.clock 0 before.printing) after text result runs
+
+abbrev pub CallAddsUp : {P B : Type 0} {pass_seen : P → PassSeen} {book_seen : B → BookSeen} {old new : YardSeen} {clock_before clock_after : ClockSeen} {taken_before taken_after : Option (List ℕ)} {faults_before faults_after : ℕ} {asks : Asked} {result : Status}
+    → RunCall pass_seen book_seen old new clock_before clock_after taken_before taken_after faults_before faults_after asks result → Type 0
+CallAddsUp {P} {B} {pass_seen} {book_seen} {old} {new} {clock_before} {clock_after} {taken_before} {taken_after} {faults_before} {faults_after} {asks} {result} call =
+    FileAddsUp pass_seen book_seen (stage [] old clock_before 0 (printing false taken_before faults_before)) (stage [] new clock_after 0 call.last) asks call.text call.said call.runs
