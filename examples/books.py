@@ -3,34 +3,59 @@
 import formats as f
 
 VERSION = 2
+LAST_EPOCH = 2 ** 63 - 1
+
+
+class EpochEnd(Exception):
+    """An epoch behind the last one is due: nothing has changed."""
 
 
 class Book:
-    """A journal made anew, whose records come in a known order."""
+    """A journal that is open, whose records come in a known order. Its file may be longer."""
 
-    def __init__(self, name, blocks, size, logs):
-        self.name, self.blocks, self.size, self.logs = name, blocks, size, logs
-        self.disk = bytearray(f.SECTOR * f.end_of(blocks, logs))
-        self.epoch, self.records = 0, []
-        self.entries = [("settled", 0)] * blocks
-        self.begin_epoch()
+    def __init__(self, name, size, logs, entries, disk, epoch):
+        self.name, self.blocks, self.size, self.logs = name, len(entries), size, logs
+        self.entries, self.disk = list(entries), bytearray(disk)
+        self.first = epoch
+        self.begin_epoch(epoch)
+
+    @classmethod
+    def made(cls, name, blocks, size, logs, old=b""):
+        """A journal made anew where a file has these bytes."""
+        end = f.SECTOR * f.end_of(blocks, logs)
+        return cls(name, size, logs, [("settled", 0)] * blocks, bytes(end) + old[end:], 0)
+
+    @classmethod
+    def reopened(cls, name, size, entries, disk):
+        """A recovered journal that is opened in its next epoch, after these entries."""
+        _, live, _, blocks, _, logs = f.live_gate(disk)
+        if live == LAST_EPOCH:
+            raise EpochEnd
+        cleared = bytearray(disk)
+        for at in (f.SECTOR * f.log_at(area, place, blocks, logs) for area in (0, 1) for place in range(logs)):
+            if f.number(cleared[at + 8:at + 16]) > live:
+                cleared[at:at + f.SECTOR] = bytes(f.SECTOR)
+        return cls(name, size, logs, entries, cleared, live + 1)
 
     def put(self, at, sector):
         self.disk[at * f.SECTOR:(at + 1) * f.SECTOR] = sector
 
-    def begin_epoch(self):
-        area = self.epoch % 2
-        self.put(area, f.gate(VERSION, self.epoch, self.name, self.blocks, self.size, self.logs))
+    def begin_epoch(self, epoch):
+        self.epoch, self.records = epoch, []
+        area = epoch % 2
+        self.put(area, f.gate(VERSION, epoch, self.name, self.blocks, self.size, self.logs))
         for i in range(f.map_sectors(self.blocks)):
             self.put(f.map_at(area, i, self.blocks, self.logs), f.map_sector(self.entries[i * f.PER_MAP:(i + 1) * f.PER_MAP]))
 
     def append(self, record):
+        full = len(self.records) == f.PER_LOG * self.logs
+        if full and self.epoch == LAST_EPOCH:
+            raise EpochEnd
         for block in f.blocks_of(record):
             self.entries[block] = f.step(self.entries[block], record)
         assert None not in self.entries
-        if len(self.records) == f.PER_LOG * self.logs:
-            self.epoch, self.records = self.epoch + 1, []
-            self.begin_epoch()
+        if full:
+            self.begin_epoch(self.epoch + 1)
             return
         self.records.append(record)
         place = (len(self.records) - 1) // f.PER_LOG
@@ -49,9 +74,30 @@ class Book:
         self.append(("endrun", block, many) if many > 1 else ("end", block, self.entries[block][2]))
 
 
-def all_records(epoch, records, logs):
-    """How many records were appended since a journal was made: an epoch's map holds the one behind a full log."""
-    return epoch * (f.PER_LOG * logs + 1) + records
+def all_records(epochs, records, logs):
+    """How many records were appended since a journal was opened, so many epochs ago: an epoch's map holds the one behind a full log."""
+    return epochs * (f.PER_LOG * logs + 1) + records
+
+
+def settled(name, entries, block_bytes, size):
+    """The entries that verification leaves of recovered ones. `block_bytes(b)` is what block b holds."""
+    left = list(entries)
+    for block, entry in enumerate(entries):
+        if entry[0] != "bad" and entry != ("settled", 0):
+            found = f.verdict(name, block, entry, block_bytes(block))[0]
+            left[block] = {"corrupt": ("bad",), "old": ("settled", entry[1]), "new": ("settled", entry[-1])}.get(found, entry)
+    return left
+
+
+def cut_off(disk, name, blocks, size, many):
+    """A journal whose last log sector lost its last records, so many or all that it has: a stop keeps no more of what wasn't synced."""
+    epoch, records, _ = f.recovered(disk, name, blocks, size)
+    if records == 0:
+        return disk
+    at = f.SECTOR * f.log_at(epoch % 2, (records - 1) // f.PER_LOG, blocks, f.live_gate(disk)[5])
+    left = max(0, (records - 1) % f.PER_LOG + 1 - many)
+    sector = disk[at:at + 20] + left.to_bytes(2, "big") + disk[at + 22:at + 32 + 16 * left] if left else b""
+    return disk[:at] + sector.ljust(f.SECTOR, b"\0") + disk[at + f.SECTOR:]
 
 
 def wrong_turnover(disk, name, blocks, size, logs):

@@ -250,6 +250,12 @@ def step(entry, record):
     return ("settled", 0)
 
 
+def live_gate(disk):
+    """The valid gate with the greater epoch, None where neither is valid."""
+    gates = [read_gate(disk[area * SECTOR:(area + 1) * SECTOR], area) for area in (0, 1) if area < len(disk) // SECTOR]
+    return max((gate for gate in gates if gate is not None), key=lambda gate: gate[1], default=None)
+
+
 def recovered(disk, name, blocks, wanted=BLOCK):
     """(epoch, number of records, entries), or Refused."""
     have = len(disk) // SECTOR
@@ -257,11 +263,10 @@ def recovered(disk, name, blocks, wanted=BLOCK):
     def at(i):
         return disk[i * SECTOR:(i + 1) * SECTOR]
 
-    gates = [read_gate(at(area), area) for area in (0, 1) if area < have]
-    valid = [g for g in gates if g is not None]
-    if not valid:
+    live = live_gate(disk)
+    if live is None:
         raise Refused(f"no journal {name}\n", 8)
-    version, epoch, found, found_blocks, size, logs = max(valid, key=lambda g: g[1])
+    version, epoch, found, found_blocks, size, logs = live
     if (found, found_blocks, size) != (name, blocks, wanted):
         raise Refused(f"mismatch found {found} blocks {found_blocks} of {size}"
                       f" wanted {name} blocks {blocks} of {wanted}\n", 10)

@@ -306,7 +306,7 @@ def random_case(rng):
     words = ["-jro", "-f", "parm"]
     if rng.random() < 0.05:
         words = rng.choice([[], ["-jro"], ["-jro", "-f"], ["-j", "-jr", "-f", "parm"], ["-f", "parm", "-jro"], ["-jro", "-f", "-x"],
-                            ["-jro", "-f", ""], ["-jro", "-f", "parm", "parm"], ["-jr", "-f", "parm"], ["-jro", "-fparm", "x"],
+                            ["-jro", "-f", ""], ["-jro", "-f", "parm", "parm"], ["-jr", "-jro", "-f", "parm"], ["-jro", "-fparm", "x"],
                             ["--help"], ["--version"], ["-sim", "1000001"]])
     given = random_parameters(rng, name, path, kib)
     if any(store.path[0] == "/" or store.journal[0] == "/" for store in stores_of(given)):

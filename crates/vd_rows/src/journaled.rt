@@ -1,29 +1,27 @@
 // Runs of a plan over journals that are made anew: what they print, and what they leave in data and journals.
 use crate::setting::{
-    Bytes, NOTHING, RECOVER, Stamped, data, expect, expect_failing, journal, put, put_sector, text,
-    yard_of,
+    BY_DEFAULT, Bytes, GATE, NOTHING, ONE_SECTOR, RECOVER, Stamped, expect, expect_failing, holds,
+    journal, keeps, over, put, put_disk, put_head, put_record, put_sector, rests, text, yard_of,
 };
 use std::alloc::Global;
 use std::process::Abort;
 use std::sync::Wait;
 use std::thread::Threads;
 use vd_base::Sector;
-use vd_disk::MemDisk;
-use vd_yard::MemYard;
 
 /// The runs of p over new journals.
 const RUN: &str = "-j -f p";
 
 /// A store of 16 blocks of 4,096 bytes that one worker writes from its first block on, in four turns.
-const FOUR: &str =
+pub const FOUR: &str =
     "sd=sd1,lun=/d/a,size=64k,threads=1\nwd=wd1,sd=sd1,xfersize=4k,rdpct=0,seekpct=0\nrd=rd1,wd=wd1,turns=4\n";
 
 /// The same with one log sector, so that its journal has 6 sectors.
-const SMALL: &str =
+pub const SMALL: &str =
     "journal_sectors=1\nsd=sd1,lun=/d/a,size=64k,threads=1\nwd=wd1,sd=sd1,xfersize=4k,rdpct=0,seekpct=0\nrd=rd1,wd=wd1,turns=4\n";
 
 /// The same with one log sector and 16 turns.
-const SIXTEEN: &str =
+pub const SIXTEEN: &str =
     "journal_sectors=1\nsd=sd1,lun=/d/a,size=64k,threads=1\nwd=wd1,sd=sd1,xfersize=4k,rdpct=0,seekpct=0\nrd=rd1,wd=wd1,turns=16\n";
 
 /// Two workers of two turns each.
@@ -35,10 +33,10 @@ const THREE: &str =
     "sd=sd1,lun=/d/a,size=8k,threads=1\nwd=wd1,sd=sd1,xfersize=4k,rdpct=0,seekpct=0\nrd=rd1,wd=wd1,turns=3\n";
 
 /// Two stores and two runs, with one log sector.
-const TWO_STORES: &str =
+pub const TWO_STORES: &str =
     "journal_sectors=1\nsd=sd1,lun=/d/a,size=64k,threads=1\nsd=sd2,lun=/d/b,size=64k,threads=1\nwd=wd1,sd=sd*,xfersize=4k,rdpct=0,seekpct=0\nrd=rd1,wd=wd1,turns=2\nrd=rd2,wd=wd1,turns=1\n";
 
-const FOUR_WRITES: &str =
+pub const FOUR_WRITES: &str =
     "opened sd1 epoch 0\nrun 1 rd1\ninterval 1 reads 0 writes 4 bytes 16384 micros 0\nslave 1 workers 1 turns 4\ntotal sd1 turns 4 reads 0 prereads 0 rereads 0 writes 4 busy 0 badskip 0 bytes 16384 faults 0 corrupt 0\nstatus 0\n";
 
 const FOUR_REREAD: &str =
@@ -56,7 +54,7 @@ const TORN: &str =
 const UNREAD: &str =
     "opened sd1 epoch 0\nrun 1 rd1\nreadfault sd1 block 0\ninterval 1 reads 0 writes 2 bytes 8192 micros 0\nslave 1 workers 1 turns 3\ntotal sd1 turns 3 reads 0 prereads 0 rereads 0 writes 2 busy 0 badskip 0 bytes 8192 faults 1 corrupt 0\nstatus 2\n";
 
-const THIRD_BEGIN_FAILS: &str =
+pub const THIRD_BEGIN_FAILS: &str =
     "opened sd1 epoch 0\nrun 1 rd1\ninterval 1 reads 0 writes 2 bytes 8192 micros 0\nslave 1 workers 1 turns 3\ntotal sd1 turns 3 reads 0 prereads 0 rereads 0 writes 2 busy 0 badskip 0 bytes 8192 faults 0 corrupt 0\njournalfault sd1 record 5\nstatus 7\n";
 
 const FIRST_BEGIN_FAILS: &str =
@@ -69,7 +67,7 @@ const CLOSING_FAILS: &str =
 const EIGHT_RECORDS: &str =
     "journal sd1 epoch 0 records 8\nverified sd1 blocks 4 corrupt 0 pending 0 bad 0 faults 0\nstatus 0\n";
 
-const TWO_RUNS: &str =
+pub const TWO_RUNS: &str =
     "opened sd1 epoch 0\nopened sd2 epoch 0\nrun 1 rd1\ninterval 1 reads 0 writes 4 bytes 16384 micros 0\nslave 1 workers 2 turns 4\ntotal sd1 turns 2 reads 0 prereads 0 rereads 0 writes 2 busy 0 badskip 0 bytes 8192 faults 0 corrupt 0\ntotal sd2 turns 2 reads 0 prereads 0 rereads 0 writes 2 busy 0 badskip 0 bytes 8192 faults 0 corrupt 0\nrun 2 rd2\ninterval 1 reads 0 writes 2 bytes 16384 micros 0\nslave 1 workers 2 turns 2\ntotal sd1 turns 1 reads 0 prereads 1 rereads 0 writes 1 busy 0 badskip 0 bytes 8192 faults 0 corrupt 0\ntotal sd2 turns 1 reads 0 prereads 1 rereads 0 writes 1 busy 0 badskip 0 bytes 8192 faults 0 corrupt 0\nstatus 0\n";
 
 const TWO_AFTER: &str =
@@ -99,9 +97,9 @@ const TWICE_AND_ONCE: &[Stamped] = &[
     (7, 0, 8, 1),
 ];
 
-const FIRST_TWO: &[Stamped] = &[(0, 0, 8, 1), (1, 0, 8, 1)];
+pub const FIRST_TWO: &[Stamped] = &[(0, 0, 8, 1), (1, 0, 8, 1)];
 
-const FIRST_FOUR: &[Stamped] = &[(0, 0, 8, 1), (1, 0, 8, 1), (2, 0, 8, 1), (3, 0, 8, 1)];
+pub const FIRST_FOUR: &[Stamped] = &[(0, 0, 8, 1), (1, 0, 8, 1), (2, 0, 8, 1), (3, 0, 8, 1)];
 
 /// The first two blocks of each half at key 1.
 const TWO_OF_EACH: &[Stamped] = &[(0, 0, 8, 1), (1, 0, 8, 1), (8, 0, 8, 1), (9, 0, 8, 1)];
@@ -125,17 +123,10 @@ const ALL: &[Stamped] = &[
     (15, 0, 8, 1),
 ];
 
-/// The first bytes of gate 0, and those of the store's name, blocks, their size and the log sectors: one, or as many as by default.
-const GATE: Bytes = (0, 0, b"VDJGATE2");
-
-const ONE_SECTOR: &[u8] = b"sd1\0\0\0\0\0\0\0\0\x10\0\0\x10\0\0\0\0\x01";
-
-const BY_DEFAULT: &[u8] = b"sd1\0\0\0\0\0\0\0\0\x10\0\0\x10\0\0\0\x10\0";
-
 const OF_TWO_BLOCKS: &[u8] = b"sd1\0\0\0\0\0\0\0\0\x02\0\0\x10\0\0\0\x10\0";
 
 /// Records of writes from key 0 to key 1: the kind and the block.
-type Record = (u8, u8);
+pub type Record = (u8, u8);
 
 const BEGIN: u8 = 1;
 
@@ -152,7 +143,7 @@ const EIGHT: &[Record] = &[
     (END, 3),
 ];
 
-const FIVE: &[Record] = &[(BEGIN, 0), (END, 0), (BEGIN, 1), (END, 1), (BEGIN, 2)];
+pub const FIVE: &[Record] = &[(BEGIN, 0), (END, 0), (BEGIN, 1), (END, 1), (BEGIN, 2)];
 
 const OF_FIRST_TWO: &[Record] = &[(BEGIN, 0), (END, 0), (BEGIN, 1), (END, 1)];
 
@@ -192,73 +183,18 @@ const THIRTY: &[Record] = &[
     (END, 14),
 ];
 
-/// A yard with this parameter file, p, and data of so many bytes of zeros. The arms' calls that are listed fail.
-fn over(
-    rt: &impl Abort,
-    alloc: Global,
-    file: &str,
-    bytes: usize,
-    failing: &[(u32, u64, u32)],
-) -> MemYard {
-    let mut yard = yard_of(rt, alloc, file.as_bytes());
-    let zeros = vec![in alloc; 0u8; bytes].expect(rt, "memory");
-    let calls = Vec::from_slice(alloc, failing).expect(rt, "memory");
-    yard.put_data(text(rt, alloc, "/d/a"), zeros, calls)
-        .expect(rt, "memory");
-    yard
-}
-
-/// Puts a journal's disk of these sectors whose listed calls fail.
-fn put_disk(
-    rt: &impl Abort,
-    alloc: Global,
-    yard: &mut MemYard,
-    path: &str,
-    sectors: Vec<Sector>,
-    failing: &[u64],
-) {
-    let calls = Vec::from_slice(alloc, failing).expect(rt, "memory");
-    let disk = MemDisk::of(alloc, sectors, calls).expect(rt, "memory");
-    yard.put_disk(text(rt, alloc, path), disk)
-        .expect(rt, "memory");
-}
-
-/// Fails where the store's data isn't so many bytes of zeros but for these images.
-fn holds(
-    rt: &impl Abort,
-    alloc: Global,
-    yard: &MemYard,
-    row: &str,
-    bytes: usize,
-    images: &[Stamped],
-) {
-    let kept = yard.bytes_at(&text(rt, alloc, "/d/a")).expect(rt, "memory");
-    let mut wanted = data(rt, alloc, 0, images);
-    wanted.truncate(bytes);
-    match kept {
-        Some(there) => assert!(rt; there.as_slice() == wanted.as_slice(), "{row}: other data"),
-        None => assert!(rt; false, "{row}: no data"),
-    }
-}
-
 /// Puts a log sector of records: its place in the file, and the records.
 fn put_log(rt: &impl Abort, sectors: &mut Vec<Sector>, at: usize, records: &[Record]) {
     let many = records.len();
-    assert!(rt; many <= 30);
-    put(rt, sectors, &(at, 0, b"VDJLOGS2"));
-    put(rt, sectors, &(at, 21, &[many as u8]));
+    put_head(rt, sectors, at, 0, many);
     for i in 0..many {
         let (kind, block) = records[i];
-        put(
-            rt,
-            sectors,
-            &(at, 32 + 16 * i, &[kind, 0, 1, 0, 0, 0, 0, block]),
-        );
+        put_record(rt, sectors, at, i, (kind, 0, 1, block));
     }
 }
 
 /// A journal in epoch 0 of so many sectors, of the store that these bytes of a gate name, with these records and no map.
-fn with_records(
+pub fn with_records(
     rt: &impl Abort,
     alloc: Global,
     many: usize,
@@ -270,45 +206,6 @@ fn with_records(
         put_log(rt, &mut sectors, 3, records);
     }
     sectors
-}
-
-/// Fails where the journal's disk doesn't read as these sectors.
-fn keeps(
-    rt: &impl Abort,
-    alloc: Global,
-    yard: &MemYard,
-    row: &str,
-    path: &str,
-    wanted: &Vec<Sector>,
-) {
-    match yard.disk_at(&text(rt, alloc, path)) {
-        Some(disk) => {
-            assert!(rt;
-                disk.contents() == wanted.as_slice(),
-                "{row}: another journal"
-            );
-        }
-        None => assert!(rt; false, "{row}: no journal"),
-    }
-}
-
-/// Fails where besides a stop might leave other sectors. It takes long over many sectors.
-fn rests(
-    rt: &impl Abort,
-    alloc: Global,
-    yard: &MemYard,
-    row: &str,
-    path: &str,
-    wanted: &Vec<Sector>,
-) {
-    keeps(rt, alloc, yard, row, path, wanted);
-    let Some(disk) = yard.disk_at(&text(rt, alloc, path)) else {
-        return;
-    };
-    for pick in 0..3u64 {
-        let image = disk.image(alloc, pick).expect(rt, "memory");
-        assert!(rt; image.as_slice() == wanted.as_slice(), "{row}: not at rest");
-    }
 }
 
 #[test]

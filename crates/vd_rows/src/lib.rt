@@ -13,6 +13,10 @@ mod plans;
 #[cfg(test)]
 mod refusals;
 #[cfg(test)]
+mod resumed;
+#[cfg(test)]
+mod resumed_faults;
+#[cfg(test)]
 mod runs;
 #[cfg(test)]
 mod setting;

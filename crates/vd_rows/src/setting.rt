@@ -16,6 +16,13 @@ pub const PARAMETERS: &str = "sd=sd1,lun=/d/a,size=64k\nwd=wd1,sd=sd1,xfersize=4
 /// What a gate has behind its epoch: the name sd1, 16 blocks, 4,096 bytes each, 8 log sectors.
 pub const STORE: &[u8] = b"sd1\0\0\0\0\0\0\0\0\x10\0\0\x10\0\0\0\0\x08";
 
+/// The first bytes of gate 0, and those of the store's name, blocks, their size and the log sectors: one, or as many as by default.
+pub const GATE: Bytes = (0, 0, b"VDJGATE2");
+
+pub const ONE_SECTOR: &[u8] = b"sd1\0\0\0\0\0\0\0\0\x10\0\0\x10\0\0\0\0\x01";
+
+pub const BY_DEFAULT: &[u8] = b"sd1\0\0\0\0\0\0\0\0\x10\0\0\x10\0\0\0\x10\0";
+
 /// A command over the stores of p.
 pub const RECOVER: &str = "-jro -f p";
 
@@ -107,6 +114,119 @@ pub fn yard(rt: &impl Abort, alloc: Global, sectors: Vec<Sector>, data: Vec<u8>)
     yard.put_data(text(rt, alloc, "/d/a"), data, Vec::new(alloc))
         .expect(rt, "memory");
     yard
+}
+
+/// A yard with this parameter file, p, and data of so many bytes of zeros. The arms' calls that are listed fail.
+pub fn over(
+    rt: &impl Abort,
+    alloc: Global,
+    file: &str,
+    bytes: usize,
+    failing: &[(u32, u64, u32)],
+) -> MemYard {
+    let mut yard = yard_of(rt, alloc, file.as_bytes());
+    let zeros = vec![in alloc; 0u8; bytes].expect(rt, "memory");
+    let calls = Vec::from_slice(alloc, failing).expect(rt, "memory");
+    yard.put_data(text(rt, alloc, "/d/a"), zeros, calls)
+        .expect(rt, "memory");
+    yard
+}
+
+/// Puts a journal's disk of these sectors whose listed calls fail.
+pub fn put_disk(
+    rt: &impl Abort,
+    alloc: Global,
+    yard: &mut MemYard,
+    path: &str,
+    sectors: Vec<Sector>,
+    failing: &[u64],
+) {
+    let calls = Vec::from_slice(alloc, failing).expect(rt, "memory");
+    let disk = MemDisk::of(alloc, sectors, calls).expect(rt, "memory");
+    yard.put_disk(text(rt, alloc, path), disk)
+        .expect(rt, "memory");
+}
+
+/// Fails where the store's data isn't so many bytes of zeros but for these images.
+pub fn holds(
+    rt: &impl Abort,
+    alloc: Global,
+    yard: &MemYard,
+    row: &str,
+    bytes: usize,
+    images: &[Stamped],
+) {
+    let kept = yard.bytes_at(&text(rt, alloc, "/d/a")).expect(rt, "memory");
+    let mut wanted = data(rt, alloc, 0, images);
+    wanted.truncate(bytes);
+    match kept {
+        Some(there) => assert!(rt; there.as_slice() == wanted.as_slice(), "{row}: other data"),
+        None => assert!(rt; false, "{row}: no data"),
+    }
+}
+
+/// Fails where the journal's disk doesn't read as these sectors.
+pub fn keeps(
+    rt: &impl Abort,
+    alloc: Global,
+    yard: &MemYard,
+    row: &str,
+    path: &str,
+    wanted: &Vec<Sector>,
+) {
+    match yard.disk_at(&text(rt, alloc, path)) {
+        Some(disk) => {
+            assert!(rt;
+                disk.contents() == wanted.as_slice(),
+                "{row}: another journal"
+            );
+        }
+        None => assert!(rt; false, "{row}: no journal"),
+    }
+}
+
+/// Fails where besides a stop might leave other sectors. It takes long over many sectors.
+pub fn rests(
+    rt: &impl Abort,
+    alloc: Global,
+    yard: &MemYard,
+    row: &str,
+    path: &str,
+    wanted: &Vec<Sector>,
+) {
+    keeps(rt, alloc, yard, row, path, wanted);
+    let Some(disk) = yard.disk_at(&text(rt, alloc, path)) else {
+        return;
+    };
+    for pick in 0..3u64 {
+        let image = disk.image(alloc, pick).expect(rt, "memory");
+        assert!(rt; image.as_slice() == wanted.as_slice(), "{row}: not at rest");
+    }
+}
+
+/// Puts the head of a log sector of version 2: its place in the file, its epoch, and how many records it has.
+pub fn put_head(rt: &impl Abort, sectors: &mut Vec<Sector>, at: usize, epoch: u8, many: usize) {
+    assert!(rt; many <= 30);
+    put(rt, sectors, &(at, 0, b"VDJLOGS2"));
+    put(rt, sectors, &(at, 15, &[epoch]));
+    put(rt, sectors, &(at, 21, &[many as u8]));
+}
+
+/// Puts a record of one block at a place of a log sector: its kind, the old key, the new one, and the block.
+pub fn put_record(
+    rt: &impl Abort,
+    sectors: &mut Vec<Sector>,
+    at: usize,
+    place: usize,
+    record: (u8, u8, u8, u8),
+) {
+    assert!(rt; place < 30);
+    let (kind, old, new, block) = record;
+    put(
+        rt,
+        sectors,
+        &(at, 32 + 16 * place, &[kind, old, new, 0, 0, 0, 0, block]),
+    );
 }
 
 /// Runs a command at a gate, and fails where it doesn't print just this text or end with this status.

@@ -6,7 +6,7 @@ const USAGE: &str =
 
 /// Words that are no command: a file is missing or named twice, a group stands twice, a name begins with `-` or is empty, a word is
 /// unknown, a number is none or too great.
-const NO_COMMANDS: [&str; 28] = [
+const NO_COMMANDS: [&str; 31] = [
     "",
     "-s",
     "-jro",
@@ -19,6 +19,9 @@ const NO_COMMANDS: [&str; 28] = [
     "-s -jro -f p",
     "-s -s -f p",
     "-j -jr -f p",
+    "-jr",
+    "-jr -f",
+    "-jr -jro -f p",
     "-s -v -vr -f p",
     "-s -f p -o",
     "-s -f p -o -x",
@@ -36,9 +39,6 @@ const NO_COMMANDS: [&str; 28] = [
     "-sim 1 -f p",
     "-s -sim 1",
 ];
-
-/// Commands whose modes aren't built.
-const NOT_BUILT: [&str; 3] = ["-jr -f p", "-fp -jr", "-jr -vr -f p"];
 
 /// Words that ask for the same: the stores of p are looked at.
 const LOOKS: [&str; 9] = [
@@ -91,9 +91,6 @@ fn usage(rt: HostRuntime) {
     let sectors = created(&rt, alloc, STORE);
     let mut yard = yard(&rt, alloc, sectors, Vec::new(alloc));
     for line in NO_COMMANDS {
-        expect(&rt, alloc, line, line, &mut yard, USAGE, 4);
-    }
-    for line in NOT_BUILT {
         expect(&rt, alloc, line, line, &mut yard, USAGE, 4);
     }
 }

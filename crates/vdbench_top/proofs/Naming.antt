@@ -1,5 +1,5 @@
 -- A command over a file names a word, and another has a number of steps.
-use Rattle.std.proofs.Common.{◌≡◌, ℕ, ◌<◌, Bool, true, false, cond, get_or, List, [], length, refl, sym, ◌∙◌, ap, subst, Option, Some, None, Result, Ok, Err}
+use Rattle.std.proofs.Common.{◌≡◌, ℕ, ◌<◌, Bool, false, get_or, List, [], length, refl, sym, ◌∙◌, ap, subst, Option, Some, None, Result, Ok, Err}
 use Rattle.std.specs.Prelude.{slice_get, IfSome}
 use Rattle.std.specs.Option.{option_map}
 use Rattle.std.proofs.lemmas.Option.{slice_get-get_or}
@@ -11,7 +11,7 @@ use Rattle.command_words.specs.declared.command.Command.{Command}
 use Rattle.command_words.specs.declared.command.Flag.{Flag}
 use Rattle.command_words.specs.declared.command.Mode.{Mode}
 use Rattle.command_words.specs.declared.command.Mode.TheVariants as mode
-use Rattle.vdbench_top.specs.Words.{Asked, asked, asked_in, command_built, built_only, is_built, keeping_of, file_by, file_in, file_of, name_at, name_in, run_by, run_of, steps_by, steps_in, steps_of}
+use Rattle.vdbench_top.specs.Words.{Asked, asked, asked_in, keeping_of, file_by, file_in, file_of, name_at, name_in, run_by, run_of, steps_by, steps_in, steps_of}
 use Rattle.vdbench_top.specs.declared.words.Keeping.{Keeping}
 use Rattle.vdbench_top.specs.declared.words.Keeping.TheVariants as keeping
 
@@ -62,37 +62,33 @@ mapped_none f (Some x) e = absurd (let g : Some (f x) ≡ None = e in cc)
 abbrev with_again : Bool → Keeping → List ℕ → Asked
 with_again again keeping name = asked name again keeping
 
-asked_by : (words : List (List ℕ)) (file : Option ℕ) (again : Bool) (m : Mode) → ((at : ℕ) → file ≡ Some at → at < length words) → (file ≡ None → (n : ℕ) × (m ≡ mode.Simulate n)) → is_built m ≡ true
+asked_by : (words : List (List ℕ)) (file : Option ℕ) (again : Bool) (m : Mode) → ((at : ℕ) → file ≡ Some at → at < length words) → (file ≡ None → (n : ℕ) × (m ≡ mode.Simulate n))
     → file_in words file m ≡ None → asked_in words file again (keeping_of m) ≡ None → steps_in m ≡ None → ⊥
-asked_by words file again mode.Show within steps built none no_run no_steps =
+asked_by words file again mode.Show within steps none no_run no_steps =
     named_by words file within (λ e. let s = steps e in no_steps_there mode.Show s.0 s.1 no_steps) none
-asked_by words file again mode.RecoverOnly within steps built none no_run no_steps =
+asked_by words file again mode.RecoverOnly within steps none no_run no_steps =
     named_by words file within (λ e. let s = steps e in no_steps_there mode.RecoverOnly s.0 s.1 no_steps) none
-asked_by words file again (mode.Simulate n) within steps built none no_run no_steps = (let f : Some n ≡ None = no_steps in cc)
-asked_by words file again mode.Validate within steps built none no_run no_steps =
+asked_by words file again (mode.Simulate n) within steps none no_run no_steps = (let f : Some n ≡ None = no_steps in cc)
+asked_by words file again mode.Validate within steps none no_run no_steps =
     named_by words file within (λ e. let s = steps e in no_steps_there mode.Validate s.0 s.1 no_steps) (mapped_none (with_again again keeping.Nothing) (name_at words file) no_run)
-asked_by words file again mode.Journal within steps built none no_run no_steps =
+asked_by words file again mode.Journal within steps none no_run no_steps =
     named_by words file within (λ e. let s = steps e in no_steps_there mode.Journal s.0 s.1 no_steps) (mapped_none (with_again again keeping.NewJournals) (name_at words file) no_run)
-asked_by words file again mode.Recover within steps built none no_run no_steps = cc
+asked_by words file again mode.Recover within steps none no_run no_steps =
+    named_by words file within (λ e. let s = steps e in no_steps_there mode.Recover s.0 s.1 no_steps) (mapped_none (with_again again keeping.OldJournals) (name_at words file) no_run)
 
-built_one : (words : List (List ℕ)) (c : Command) (b : Bool) → is_built c.mode ≡ b → command_said words ≡ Some c → ((at : ℕ) → c.file ≡ Some at → at < length words)
-    → file_by words (cond b (Some c) None) ≡ None → run_by words (cond b (Some c) None) ≡ None → steps_by (cond b (Some c) None) ≡ None → cond b (Some c) None ≡ None
-built_one words c true e said within none no_run no_steps = absurd (asked_by words c.file c.reread c.mode within (λ f. steps_or_file words c said f) e none no_run no_steps)
-built_one words c false e said within none no_run no_steps = refl
-
-built_by : (words : List (List ℕ)) (o : Option Command) → command_said words ≡ o → ((c : Command) → o ≡ Some c → (at : ℕ) → c.file ≡ Some at → at < length words)
-    → file_by words (built_only o) ≡ None → run_by words (built_only o) ≡ None → steps_by (built_only o) ≡ None → built_only o ≡ None
-built_by words None e within none no_run no_steps = refl
-built_by words (Some c) e within none no_run no_steps = built_one words c (is_built c.mode) refl e (within c refl) none no_run no_steps
+said_by : (words : List (List ℕ)) (o : Option Command) → command_said words ≡ o → ((c : Command) → o ≡ Some c → (at : ℕ) → c.file ≡ Some at → at < length words)
+    → file_by words o ≡ None → run_by words o ≡ None → steps_by o ≡ None → o ≡ None
+said_by words None e within none no_run no_steps = refl
+said_by words (Some c) e within none no_run no_steps = absurd (asked_by words c.file c.reread c.mode (within c refl) (λ f. steps_or_file words c e f) none no_run no_steps)
 
 place_within : (o : Option Command) (n : ℕ) → IfSome o (λ c. IfSome c.file (λ at. at < n)) → (c : Command) → o ≡ Some c → (at : ℕ) → c.file ≡ Some at → at < n
 place_within o n within c e at f =
     let here : IfSome c.file (λ at. at < n) = subst (λ (x : Option Command). IfSome x (λ c. IfSome c.file (λ at. at < n))) e within in
     subst (λ (x : Option ℕ). IfSome x (λ at. at < n)) f here
 
-pub nothing_asked : (words : List (List ℕ)) (n : ℕ) (o : Option Command) → length words ≡ n → o ≡ command_said words → IfSome o (λ c. IfSome c.file (λ at. at < n)) → file_of words ≡ None → run_of words ≡ None → steps_of words ≡ None → command_built words ≡ None
+pub nothing_asked : (words : List (List ℕ)) (n : ℕ) (o : Option Command) → length words ≡ n → o ≡ command_said words → IfSome o (λ c. IfSome c.file (λ at. at < n)) → file_of words ≡ None → run_of words ≡ None → steps_of words ≡ None → command_said words ≡ None
 nothing_asked words n o many e within none no_run no_steps =
-    built_by words (command_said words) refl
+    said_by words (command_said words) refl
     (λ c f at g. subst (λ (m : ℕ). at < m) (sym many) (place_within o n within c (e ∙ f) at g)) none no_run no_steps
 
 -- ---- a command has not both
@@ -109,4 +105,4 @@ both_by words None name n f s = cc
 both_by words (Some c) name n f s = both_in words c.file c.mode name n f s
 
 pub not_both : (words : List (List ℕ)) (name : List ℕ) (n : ℕ) → file_of words ≡ Some name → steps_of words ≡ Some n → ⊥
-not_both words name n f s = both_by words (command_built words) name n f s
+not_both words name n f s = both_by words (command_said words) name n f s

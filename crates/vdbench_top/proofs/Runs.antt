@@ -1,16 +1,18 @@
 -- From what is said over a plan's runs to what is said over a command that runs it.
-use Rattle.std.proofs.Common.{◌≡◌, ℕ, Bool, true, false, IsTrue, List, [], refl, sym, ◌∙◌, subst, inl, inr, ◌⊎◌, Option, Some, Err, map}
+use Rattle.std.proofs.Common.{◌≡◌, ℕ, Bool, true, false, IsTrue, List, [], ◌∷◌, refl, sym, ◌∙◌, ap, subst, inl, inr, ◌⊎◌, Option, Some, Err, map}
 use Rattle.std.specs.Prelude.{◌≢◌}
 use Rattle.vd_outside.specs.Causes.{Rose}
 use Rattle.vd_outside.specs.Clocks.{ClockSeen}
 use Rattle.vd_arm.specs.Arm.{PassSeen}
 use Rattle.vd_yard.specs.Counts.{arm_faults, good_reads, good_writes, source_faults}
-use Rattle.vd_yard.specs.Out.{AtSource}
-use Rattle.vd_yard.specs.Kept.{Kept}
+use Rattle.vd_yard.specs.Out.{AtDisk, AtSource}
+use Rattle.vd_yard.specs.Kept.{Kept, kept_at}
 use Rattle.vd_disk.specs.Disk.{DiskSeen}
 use Rattle.vd_yard.specs.Yard.{Tells, YardSeen, is_there}
 use Rattle.plan_types.specs.Valid.{IsPlan}
 use Rattle.plan_types.specs.declared.plan.Plan.{Plan}
+use Rattle.plan_types.specs.declared.store.StorePlan.{StorePlan}
+use Rattle.journal_recover.specs.declared.found.Recovered.{Recovered}
 use Rattle.plan_file.specs.Files.{PlansTo}
 use Rattle.key_state.specs.Quiet.{quiet_seen}
 use Rattle.key_state.specs.declared.seen.BookSeen.{BookSeen}
@@ -29,14 +31,20 @@ use Rattle.plan_journaled.specs.Over.{CanEndOver}
 use Rattle.plan_journals.specs.Closing.{WentWell}
 use Rattle.plan_journals.specs.Growth.{AreKeptClosed, ChangesOnlyJournals, SomeRose}
 use Rattle.plan_journals.specs.Open.{Start, new_starts}
-use Rattle.vdbench_top.specs.Runs.{CanEndAs, CanEndJournaled, HasNoPlan, unopened, unread, refused, unkept, KeepsJournals, MakesJournals, without_plan, over_plan, OnlyReads, RunsFile, no_plan, ran, ran_journaled, RunCall, rereading}
+use Rattle.still_plan.specs.Journals.{AllRecover, RecoversTo}
+use Rattle.plan_reopened.specs.Reopening.{AreSettled}
+use Rattle.plan_reopened.proofs.Recoveries.{all_recover}
+use Rattle.plan_resumed.specs.Resumed.{AreThere, OnlyJournalsChange, Resumed, RunsResumed, not_recovered, not_verified, resumed}
+use Rattle.recover_run.specs.declared.look.Look.{Look}
+use Rattle.plan_verified.specs.Stores.{LeaveStores, StoreSeen, settled_of}
+use Rattle.vdbench_top.specs.Runs.{AreNext, CanEndAs, CanEndJournaled, HasJournals, HasNoPlan, unopened, unread, refused, unkept, KeepsJournals, MakesJournals, OverFile, ReopensJournals, UsesJournals, without_plan, over_plan, OnlyReads, RunsFile, no_plan, ran, ran_journaled, ran_resumed, RunCall, rereading}
 use Rattle.vdbench_top.specs.Still.{AreBytesOf, IsPlanOf}
 use Rattle.vdbench_top.specs.Words.{Asked, asked}
 use Rattle.vdbench_top.specs.declared.words.Keeping.{Keeping}
 use Rattle.vdbench_top.specs.declared.words.Keeping.TheVariants as keeping
 use Rattle.vdbench_top.proofs.Statuses.{quietly_says}
 use Rattle.still_plan.proofs.Frames.{keeps_same}
-use Rattle.vdbench_top.proofs.Tellings.{ends_by, untouched_same}
+use Rattle.vdbench_top.proofs.Tellings.{ends_by, its_status, untouched_same}
 
 -- ---- a parameter file that gives no plan
 -- a text that was said, and why it was
@@ -96,6 +104,7 @@ no_plan_ends a c file text result n keeping.NewJournals = record {
   none_damaged = no_plan_status a c file text result status.Damaged n (λ e. cc) (λ e. cc) (λ e. cc) (λ e. cc);
   none_mismatched = no_plan_status a c file text result status.Mismatch n (λ e. cc) (λ e. cc) (λ e. cc) (λ e. cc);
 }
+no_plan_ends a c file text result n keeping.OldJournals = no_plan_status a c file text result status.Usage n (λ e. cc) (λ e. cc) (λ e. cc) (λ e. cc)
 
 -- it doesn't go well either, and no journal failed
 pub no_plan_bad : (a c : YardSeen) (file text : List ℕ) (result : Status) → HasNoPlan a c file text result → WentWell result → ⊥
@@ -104,10 +113,9 @@ no_plan_bad a c file text result (unread r w t s) well = subst WentWell s well
 no_plan_bad a c file text result (refused bytes are p s) well = subst WentWell s well
 no_plan_bad a c file text result (unkept t s) well = subst WentWell s well
 
--- how a command ends says that its output didn't fail
-pub no_output_as : (k : Keeping) (result : Status) → CanEndAs k result → result ≢ status.Sink
-no_output_as keeping.Nothing result can = can.no_output
-no_output_as keeping.NewJournals result can = can.no_output
+-- its output didn't fail as it was said
+pub no_plan_output : (a c : YardSeen) (file text : List ℕ) (result : Status) → HasNoPlan a c file text result → result ≢ status.Sink
+no_plan_output a c file text result n = no_plan_status a c file text result status.Sink n (λ e. cc) (λ e. cc) (λ e. cc) (λ e. cc)
 
 pub ends_over : (result : Status) → CanEndOver result → CanEndJournaled result
 ends_over result can = record {
@@ -153,10 +161,16 @@ same_asked : (x asks : Asked) (o : Option Asked) → Some x ≡ o → o ≡ Some
 same_asked x asks o e f = some_same x asks (e ∙ f)
 
 -- ---- the kept disks
-pub makes_none : (a c : YardSeen) (file text : List ℕ) (result : Status) → OnlyReads a c → HasNoPlan a c file text result → MakesJournals a c file result
-makes_none a c file text result o n =
+over_none : (Over : Plan → YardSeen → YardSeen → Status → Type 0) (a c : YardSeen) (file text : List ℕ) (result : Status) → OnlyReads a c → HasNoPlan a c file text result → OverFile Over a c file result
+over_none Over a c file text result o n =
     without_plan o.untouched.disks (no_plan_bad a c file text result n)
     (no_plan_status a c file text result status.Journal n (λ e. cc) (λ e. cc) (λ e. cc) (λ e. cc))
+
+pub makes_none : (a c : YardSeen) (file text : List ℕ) (result : Status) → OnlyReads a c → HasNoPlan a c file text result → MakesJournals a c file result
+makes_none a c file text result o n = over_none KeepsJournals a c file text result o n
+
+pub uses_none : (a c : YardSeen) (file text : List ℕ) (result : Status) → OnlyReads a c → HasNoPlan a c file text result → UsesJournals a c file result
+uses_none a c file text result o n = over_none ReopensJournals a c file text result o n
 
 grows_behind : (starts : List Start) (a b c : YardSeen) → b.disks ≡ a.disks → ChangesOnlyJournals starts b.disks c.disks → ChangesOnlyJournals starts a.disks c.disks
 grows_behind starts a b c e g = subst (λ (k : Kept DiskSeen). ChangesOnlyJournals starts k c.disks) e g
@@ -183,20 +197,93 @@ keeps_journals a b c again plan now result o e grows whole failed =
       failed = λ is keeps. subst (λ (k : Kept DiskSeen). SomeRose plan.stores k c.disks) o.untouched.disks (subst (λ (x : Plan). SomeRose x.stores b.disks c.disks) e (failed is (told keeps)));
     }
 
--- another status that is neither 0, 1 or 2 nor that of a failed journal
-pub makes_unheard : (a c : YardSeen) (file : List ℕ) (result : Status) → MakesJournals a c file result → MakesJournals a c file status.Sink
-makes_unheard a c file result (without_plan d w j) = without_plan d (λ x. x) (λ e. cc)
-makes_unheard a c file result (over_plan plan is k) = over_plan plan is (record { grows = k.grows; closed = λ x. absurd x; failed = λ e. absurd (let f : status.Sink ≡ status.Journal = e in cc) })
+-- ---- and where journals are used that are there
+next_behind : (plan : Plan) (again : Bool) (a b : YardSeen) (starts : List Start) → OnlyReads a b → AreNext (rereading again plan) b starts → AreNext plan a starts
+next_behind plan again a b starts o (inl none) = inl none
+next_behind plan again a b starts o (inr (found, entries, each, settled, from)) = inr (found, entries, recover_behind a b plan.stores found o each, settled, from)
+  where
+    one_behind : (a b : YardSeen) (store : StorePlan) (one : Recovered) → OnlyReads a b → RecoversTo b store one → RecoversTo a store one
+    one_behind a b store one o r =
+        let same : b.disks ≡ a.disks = o.untouched.disks in
+        record {
+          gives = λ disk at. r.gives disk (ap (λ (k : Kept DiskSeen). kept_at k store.journal) same ∙ at);
+          there = λ told none. r.there (subst (λ (t : Tells). IsTrue t.keeps_disks) (sym o.keeps.tells) told) (ap (λ (k : Kept DiskSeen). kept_at k store.journal) same ∙ none);
+          usable = r.usable;
+          fit = r.fit;
+        }
 
-pub makes_ends : (a c : YardSeen) (file name : List ℕ) (said result : Status) (f : Bool) → file ≡ name → (f ≡ true → result ≡ status.Sink) → (f ≡ false → result ≡ said)
-    → MakesJournals a c file said → MakesJournals a c name result
-makes_ends a c file name said result true e failed good m =
-    subst (λ (x : List ℕ). MakesJournals a c x result) e (subst (λ (s : Status). MakesJournals a c file s) (sym (failed refl)) (makes_unheard a c file said m))
-makes_ends a c file name said result false e failed good m =
-    subst (λ (x : List ℕ). MakesJournals a c x result) e (subst (λ (s : Status). MakesJournals a c file s) (sym (good refl)) m)
+    recover_behind : (a b : YardSeen) (stores : List StorePlan) (found : List Recovered) → OnlyReads a b → AllRecover b stores found → AllRecover a stores found
+    recover_behind a b [] [] o each = tt
+    recover_behind a b [] (one ∷ found) o each = absurd each
+    recover_behind a b (store ∷ stores) [] o each = absurd each
+    recover_behind a b (store ∷ stores) (one ∷ found) o each = (one_behind a b store one o each.0, recover_behind a b stores found o each.1)
+
+-- Verification leaves a valid entry for each block.
+left_settled : (a c : YardSeen) (stores : List StorePlan) (found : List Recovered) (seen : List (List Look)) (left : List StoreSeen) → LeaveStores a c stores found seen left → AreSettled stores (map settled_of left)
+left_settled a c [] [] [] [] p = tt
+left_settled a c [] [] [] (first ∷ left) p = absurd p
+left_settled a c [] [] (looks ∷ seen) left p = absurd p
+left_settled a c [] (one ∷ found) seen left p = absurd p
+left_settled a c (store ∷ stores) [] seen left p = absurd p
+left_settled a c (store ∷ stores) (one ∷ found) [] left p = absurd p
+left_settled a c (store ∷ stores) (one ∷ found) (looks ∷ seen) [] p = absurd p
+left_settled a c (store ∷ stores) (one ∷ found) (looks ∷ seen) (first ∷ left) p = (record { one_each = p.0.one_each; valid = p.0.valid }, left_settled a c stores found seen left p.1)
+
+module _ {P B : Type 0} (pass_seen : P → PassSeen) (book_seen : B → BookSeen) where
+  -- The journals that a command opens are those that it recovered.
+  next_of : (plan : Plan) (before after : Stage) (starts : List Start) (text : List ℕ) (result : Status) → RunsResumed pass_seen book_seen plan before after starts text result → AreNext plan before.yard starts
+  next_of plan before after starts text result (not_recovered stop leaves stay clock none) = inl none
+  next_of plan before after starts text result (not_verified found recovered said have verified rest ends stop blocks leaves disks clock none texts) = inl none
+  next_of plan before after starts text result (resumed found recovered said have seen left verified told looked from rest after_that goes texts is) =
+      inr (found, map settled_of left, all_recover before.yard plan.stores have.disks found have.each, left_settled recovered verified plan.stores found seen left looked.each, from)
+
+  pub reopens_journals : (a b c : YardSeen) (k l : ClockSeen) (again : Bool) (plan now : Plan) (result : Status) (p q : Printing) → OnlyReads a b → now ≡ rereading again plan
+      → Resumed pass_seen book_seen now (stage [] b k 0 p) (stage [] c l 0 q) result
+      → (result ≡ status.Journal → IsTrue b.tells.keeps_disks → SomeRose now.stores b.disks c.disks) → ReopensJournals plan a c result
+  reopens_journals a b c k l again plan now result p q o e went failed =
+      let mine : Resumed pass_seen book_seen (rereading again plan) (stage [] b k 0 p) (stage [] c l 0 q) result = subst (λ (x : Plan). Resumed pass_seen book_seen x (stage [] b k 0 p) (stage [] c l 0 q) result) e went in
+      let told : IsTrue a.tells.keeps_disks → IsTrue b.tells.keeps_disks = λ keeps. subst (λ (t : Tells). IsTrue t.keeps_disks) (sym o.keeps.tells) keeps in
+      record {
+        starts = mine.starts;
+        next = next_behind plan again a b mine.starts o (next_of (rereading again plan) (stage [] b k 0 p) (stage [] c l 0 q) mine.starts mine.text result mine.does);
+        grows = subst (λ (d : Kept DiskSeen). OnlyJournalsChange mine.starts d c.disks) o.untouched.disks mine.grows;
+        closed = λ well keeps.
+            let s = mine.whole well (told keeps) in
+            record { books = s.books; one_each = s.one_each; closed = subst (λ (d : Kept DiskSeen). AreKeptClosed d c.disks mine.starts s.books) o.untouched.disks s.closed };
+        failed = λ is keeps. subst (λ (d : Kept DiskSeen). SomeRose plan.stores d c.disks) o.untouched.disks (subst (λ (x : Plan). SomeRose x.stores b.disks c.disks) e (failed is (told keeps)));
+      }
+
+-- another status that is neither 0, 1 or 2 nor that of a failed journal
+pub anew_unheard : (plan : Plan) (a c : YardSeen) (result : Status) → KeepsJournals plan a c result → KeepsJournals plan a c status.Sink
+anew_unheard plan a c result k = record { grows = k.grows; closed = λ x. absurd x; failed = λ e. absurd (let f : status.Sink ≡ status.Journal = e in cc) }
+
+pub old_unheard : (plan : Plan) (a c : YardSeen) (result : Status) → ReopensJournals plan a c result → ReopensJournals plan a c status.Sink
+old_unheard plan a c result k = record { starts = k.starts; next = k.next; grows = k.grows; closed = λ x. absurd x; failed = λ e. absurd (let f : status.Sink ≡ status.Journal = e in cc) }
+
+module _ (Over : Plan → YardSeen → YardSeen → Status → Type 0) (over_unheard : (plan : Plan) (a c : YardSeen) (result : Status) → Over plan a c result → Over plan a c status.Sink) where
+  unheard : (a c : YardSeen) (file : List ℕ) (result : Status) → OverFile Over a c file result → OverFile Over a c file status.Sink
+  unheard a c file result (without_plan d w j) = without_plan d (λ x. x) (λ e. cc)
+  unheard a c file result (over_plan plan is k) = over_plan plan is (over_unheard plan a c result k)
+
+  pub over_ends : (a c : YardSeen) (file name : List ℕ) (said result : Status) (f : Bool) → file ≡ name → (f ≡ true → result ≡ status.Sink) → (f ≡ false → result ≡ said)
+      → OverFile Over a c file said → OverFile Over a c name result
+  over_ends a c file name said result true e failed good m =
+      subst (λ (x : List ℕ). OverFile Over a c x result) e (subst (λ (s : Status). OverFile Over a c file s) (sym (failed refl)) (unheard a c file said m))
+  over_ends a c file name said result false e failed good m =
+      subst (λ (x : List ℕ). OverFile Over a c x result) e (subst (λ (s : Status). OverFile Over a c file s) (sym (good refl)) m)
 
 pub makes_nothing : (a : YardSeen) (name : List ℕ) (result : Status) (f : Bool) → (f ≡ true → result ≡ status.Sink) → (f ≡ false → result ≡ status.NoMemory) → MakesJournals a a name result
-makes_nothing a name result f failed good = makes_ends a a name name status.NoMemory result f refl failed good (without_plan refl (λ x. x) (λ e. cc))
+makes_nothing a name result f failed good = over_ends KeepsJournals anew_unheard a a name name status.NoMemory result f refl failed good (without_plan refl (λ x. x) (λ e. cc))
+
+pub uses_nothing : (a : YardSeen) (name : List ℕ) (result : Status) (f : Bool) → (f ≡ true → result ≡ status.Sink) → (f ≡ false → result ≡ status.NoMemory) → UsesJournals a a name result
+uses_nothing a name result f failed good = over_ends ReopensJournals old_unheard a a name name status.NoMemory result f refl failed good (without_plan refl (λ x. x) (λ e. cc))
+
+-- ---- the files that a willing yard has
+there_behind : (a b : YardSeen) (stores : List StorePlan) → Keeps a b → AreThere a stores → AreThere b stores
+there_behind a b stores k there = λ place store at. k.files AtDisk store.journal (there place store at)
+
+pub there_along : (a b : YardSeen) (again : Bool) (plan now : Plan) → OnlyReads a b → now ≡ rereading again plan → AreThere a plan.stores → AreThere b now.stores
+there_along a b again plan now o e there = subst (λ (x : Plan). AreThere b x.stores) (sym e) (there_behind a b plan.stores o.keeps there)
 
 -- a willing yard that has the parameter file opens it
 pub no_plan_opens : (a c : YardSeen) (file text : List ℕ) (result : Status) → HasNoPlan a c file text result → IsTrue a.willing → IsTrue (is_there a.files AtSource file) → result ≢ status.Yard
@@ -204,6 +291,13 @@ no_plan_opens a c file text result (unopened r w t s) willing there = λ e. w wi
 no_plan_opens a c file text result (unread r w t s) willing there = λ e. (let f : status.Source ≡ status.Yard = sym s ∙ e in cc)
 no_plan_opens a c file text result (refused bytes are p s) willing there = λ e. (let f : status.Parameter ≡ status.Yard = sym s ∙ e in cc)
 no_plan_opens a c file text result (unkept t s) willing there = λ e. (let f : status.NoMemory ≡ status.Yard = sym s ∙ e in cc)
+
+pub opens_ends : (a : YardSeen) (k : Keeping) (file name : List ℕ) (said result : Status) (f : Bool) → file ≡ name → (f ≡ true → result ≡ status.Sink) → (f ≡ false → result ≡ said)
+    → (IsTrue a.willing → IsTrue (is_there a.files AtSource file) → HasJournals a k file → said ≢ status.Yard)
+    → IsTrue a.willing → IsTrue (is_there a.files AtSource name) → HasJournals a k name → result ≢ status.Yard
+opens_ends a k file name said result f same failed good opens willing there journals = λ e.
+    opens willing (subst (λ (x : List ℕ). IsTrue (is_there a.files AtSource x)) (sym same) there)
+    (λ old plan is. journals old plan (subst (λ (x : List ℕ). IsPlanOf a x plan) same is)) (its_status f said result status.Yard failed good (λ x. cc) e)
 
 -- what was said before the last lines, where the output didn't fail
 pub said_not : (f : Bool) (said result other : Status) → (f ≡ true → result ≡ status.Sink) → (f ≡ false → result ≡ said) → result ≢ status.Sink → result ≢ other → said ≢ other
@@ -240,6 +334,15 @@ module _ {P B : Type 0} (pass_seen : P → PassSeen) (book_seen : B → BookSeen
         (subst (λ (x : Printing). Says x q v.0) same v.2) keeps,
   )
 
+  pub file_resumed : (a b c : YardSeen) (k l : ClockSeen) (again : Bool) (file : List ℕ) (plan now : Plan) (result : Status) (p read q : Printing) → OnlyReads a b → IsPlanOf a file plan → IsPlan plan → now ≡ rereading again plan
+      → Resumed pass_seen book_seen now (stage [] b k 0 read) (stage [] c l 0 q) result → ReopensJournals plan a c result → read ≡ p
+      → (text : List ℕ) × RunsFile pass_seen book_seen (stage [] a k 0 p) (stage [] c l 0 q) (asked file again keeping.OldJournals) text result
+  file_resumed a b c k l again file plan now result p read q r is valid e went uses same =
+      let mine : Resumed pass_seen book_seen (rereading again plan) (stage [] b k 0 p) (stage [] c l 0 q) result =
+      subst (λ (x : Printing). Resumed pass_seen book_seen (rereading again plan) (stage [] b k 0 x) (stage [] c l 0 q) result) same
+      (subst (λ (x : Plan). Resumed pass_seen book_seen x (stage [] b k 0 read) (stage [] c l 0 q) result) e went) in
+      (mine.text, ran_resumed plan refl is (rereading_valid again plan valid) b r mine refl uses)
+
   pub file_as : (before after : Stage) (again : Bool) (file : List ℕ) (result : Status) (k x : Keeping) → k ≡ x
       → (text : List ℕ) × RunsFile pass_seen book_seen before after (asked file again x) text result → (text : List ℕ) × RunsFile pass_seen book_seen before after (asked file again k) text result
   file_as before after again file result k x e f = subst (λ (y : Keeping). (text : List ℕ) × RunsFile pass_seen book_seen before after (asked file again y) text result) (sym e) f
@@ -251,12 +354,13 @@ module _ {P B : Type 0} (pass_seen : P → PassSeen) (book_seen : B → BookSeen
   pub file_says : (before after : Stage) (asks : Asked) (text : List ℕ) (result : Status) → RunsFile pass_seen book_seen before after asks text result → Says before.printing after.printing text
   file_says before after asks text result (no_plan o n k s) = s
   file_says before after asks text result (ran_journaled plan kept is v b o q s m) = s
+  file_says before after asks text result (ran_resumed plan kept is v b o went same uses) = says_along before.printing after.printing went.text text (sym same) went.says
   file_says before after asks text result (ran plan kept is v b o q) =
       quietly_says pass_seen quiet_seen (rereading asks.again plan) (stage (with_books (map unwritten plan.stores)) b before.clock 0 before.printing) after text result q
 
   -- A whole call, by what a printer said that had printed nothing.
   pub call_by : (a c : YardSeen) (k l : ClockSeen) (again : Bool) (keep : Keeping) (file name text : List ℕ) (said result : Status) (f : Bool) (taken : Option (List ℕ)) (faults : ℕ) (q e : Printing) → f ≡ false → file ≡ name
-      → RunsFile pass_seen book_seen (stage [] a k 0 (printing f taken faults)) (stage [] c l 0 q) (asked file again keep) text said → said ≢ status.Sink
+      → RunsFile pass_seen book_seen (stage [] a k 0 (printing f taken faults)) (stage [] c l 0 q) (asked file again keep) text said → (said ≡ status.Sink → q.failed ≡ true)
       → Says q e (last_text said) → (e.failed ≡ true → result ≡ status.Sink) → (e.failed ≡ false → result ≡ said)
       → RunCall pass_seen book_seen a c k l taken e.taken faults e.faults (asked name again keep) result
   call_by a c k l again keep file name text said result f taken faults q e fresh same runs heard last failed good = record {
@@ -268,7 +372,7 @@ module _ {P B : Type 0} (pass_seen : P → PassSeen) (book_seen : B → BookSeen
         (runs_along (stage [] a k 0 (printing f taken faults)) (stage [] c l 0 q) again keep file name text said same runs);
     ends =
         ends_by (printing f taken faults) q e text said result
-        (file_says (stage [] a k 0 (printing f taken faults)) (stage [] c l 0 q) (asked file again keep) text said runs) last failed good (λ s. absurd (heard s));
+        (file_says (stage [] a k 0 (printing f taken faults)) (stage [] c l 0 q) (asked file again keep) text said runs) last failed good heard;
   }
 
   -- Memory ran out before anything was done.
@@ -277,7 +381,7 @@ module _ {P B : Type 0} (pass_seen : P → PassSeen) (book_seen : B → BookSeen
       → RunCall pass_seen book_seen a a k k taken e.taken faults e.faults (asked name again keep) result
   call_without_memory a k again keep name result f taken faults e fresh last failed good =
       call_by a a k k again keep name name [] status.NoMemory result f taken faults (printing f taken faults) e fresh refl
-      (no_plan (only_reads_same a) (unkept refl refl) refl (says_none (printing f taken faults))) (λ s. cc) last failed good
+      (no_plan (only_reads_same a) (unkept refl refl) refl (says_none (printing f taken faults))) (λ s. absurd (let g : status.NoMemory ≡ status.Sink = s in cc)) last failed good
 
   -- The call that the words ask for.
   pub call_as : (a c : YardSeen) (k l : ClockSeen) (taken now : Option (List ℕ)) (m n : ℕ) (x : Asked) (result : Status) (asks : Asked) (o : Option Asked) → Some x ≡ o → o ≡ Some asks

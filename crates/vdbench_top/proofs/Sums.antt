@@ -27,15 +27,23 @@ use Rattle.plan_journaled.specs.Journaled as journaled
 use Rattle.plan_runs.specs.Quiet.{RunsQuietly, none_made, unwritten}
 use Rattle.plan_runs.specs.Quiet as quietly
 use Rattle.plan_runs.specs.Stages.{RunsMade, Stage, stage}
+use Rattle.plan_verified.specs.Stores.{StoreSeen}
+use Rattle.plan_journals.specs.Open.{Start}
+use Rattle.plan_resumed.specs.Going.{GoesOn}
+use Rattle.plan_resumed.specs.Going as going
+use Rattle.plan_resumed.specs.Resumed.{RunsResumed}
+use Rattle.plan_resumed.specs.Resumed as resumed
+use Rattle.plan_resumed.specs.Seating.{with_passes}
 use Rattle.plan_totals.specs.Made.{PlanRuns}
 use Rattle.plan_journaled.proofs.Anew.{are_seated as new_seats}
 use Rattle.plan_runs.proofs.Quieted.{are_seated as quiet_seats}
 use Rattle.plan_totals.specs.Sentences.{AllFit, CorruptAreBad, ErrorsAreFindings, FaultsAreArmFaults, FirstAreMade, NoneIsCorrupt, NoneIsLeftOut, ReadsAreGoodReads, RefusedIsTold, StartBelowLimit, TextIsTheirs, UnwrittenFit, WritesAreEnds, WritesAreGoodWrites}
 use Rattle.run_totals.proofs.Lists.{get_map}
-use Rattle.vdbench_top.specs.Runs.{HasNoPlan, RunCall, RunsFile, no_plan, ran, ran_journaled, rereading}
+use Rattle.vdbench_top.specs.Runs.{HasNoPlan, RunCall, RunsFile, no_plan, ran, ran_journaled, ran_resumed, rereading}
 use Rattle.vdbench_top.proofs.Runs.{no_plan_status}
-use Rattle.vdbench_top.specs.Sums.{AddUp, FileAddsUp, JournaledAddUp, QuietlyAddUp, RunsAddUp}
+use Rattle.vdbench_top.specs.Sums.{AddUp, FileAddsUp, GoingAddsUp, JournaledAddUp, QuietlyAddUp, ResumedAddUp, RunsAddUp}
 use Rattle.vdbench_top.specs.Words.{Asked}
+use Rattle.vdbench_top.specs.declared.words.Keeping.TheVariants as keeping
 
 module _ {P B : Type 0} (pass_seen : P → PassSeen) (book_seen : B → BookSeen) where
   -- the laws of all runs of a plan that are used here
@@ -92,6 +100,21 @@ module _ {P B : Type 0} (pass_seen : P → PassSeen) (book_seen : B → BookSeen
   journaled_add laws plan before after text result (journaled.unseated books opened said all_open unused clock texts memory) = tt
   journaled_add laws plan before after text result (journaled.stopped books opened said why stops leaves unused clock texts is) = tt
 
+  going_adds : Laws pass_seen book_seen → (plan : Plan) (starts : List Start) (left : List StoreSeen) (before after : Stage) (text : List ℕ) (result : Status) (goes : GoesOn pass_seen book_seen plan starts left before after text result)
+      → GoingAddsUp pass_seen book_seen plan starts left before after text result goes
+  going_adds laws plan starts left before after text result (going.went_on books said opened rest closed texts) =
+      adds pass_seen book_seen laws plan (stage (with_passes left books) before.yard before.clock 0 said) closed.last closed.runs_text closed.work closed.made
+  going_adds laws plan starts left before after text result (going.unseated books said opened unused clock texts memory) = tt
+  going_adds laws plan starts left before after text result (going.stopped books opened said why stops leaves same unused clock texts is) = tt
+  going_adds laws plan starts left before after text result (going.not_begun given clock texts memory) = tt
+
+  resumed_add : Laws pass_seen book_seen → (plan : Plan) (before after : Stage) (starts : List Start) (text : List ℕ) (result : Status) (runs : RunsResumed pass_seen book_seen plan before after starts text result)
+      → ResumedAddUp pass_seen book_seen plan before after starts text result runs
+  resumed_add laws plan before after starts text result (resumed.not_recovered stop leaves stay clock none) = tt
+  resumed_add laws plan before after starts text result (resumed.not_verified found recovered said have verified rest ends stop blocks leaves disks clock none texts) = tt
+  resumed_add laws plan before after starts text result (resumed.resumed found recovered said have seen left verified told looked from rest after_that goes texts is) =
+      going_adds laws plan starts left (stage [] verified before.clock 0 told) after rest after_that goes
+
   pub file_adds : Laws pass_seen quiet_seen → Laws pass_seen book_seen → (before after : Stage) (asks : Asked) (text : List ℕ) (result : Status)
       (runs : RunsFile pass_seen book_seen before after asks text result) → FileAddsUp pass_seen book_seen before after asks text result runs
   file_adds quiet_laws laws before after asks text result (no_plan reads none clock says) = tt
@@ -99,6 +122,8 @@ module _ {P B : Type 0} (pass_seen : P → PassSeen) (book_seen : B → BookSeen
       quietly_add quiet_laws (rereading asks.again plan) (stage (with_books (map unwritten plan.stores)) read before.clock 0 before.printing) after text result runs
   file_adds quiet_laws laws before after asks text result (ran_journaled plan kept is valid read reads runs says keeps) =
       journaled_add laws (rereading asks.again plan) (stage [] read before.clock 0 before.printing) after text result runs
+  file_adds quiet_laws laws before after asks text result (ran_resumed plan kept is valid read reads went same uses) =
+      resumed_add laws (rereading asks.again plan) (stage [] read before.clock 0 before.printing) after went.starts went.text result went.does
 
 -- ---- bytes fit where no block was ever written
 abbrev seated : ℕ → List BookSeen → List HandSeen
@@ -213,17 +238,18 @@ module _ {P B : Type 0} (pass_seen : P → PassSeen) (book_seen : B → BookSeen
   no_plan_not : (a c : YardSeen) (file text : List ℕ) (result : Status) → HasNoPlan a c file text result → result ≢ status.Corrupt
   no_plan_not a c file text result n = no_plan_status a c file text result status.Corrupt n (λ e. cc) (λ e. cc) (λ e. cc) (λ e. cc)
 
-  file_sound : Laws pass_seen quiet_seen → Laws pass_seen book_seen → (before after : Stage) (asks : Asked) (text : List ℕ) (result : Status) → IsTrue before.yard.tells.keeps_contents
+  file_sound : Laws pass_seen quiet_seen → Laws pass_seen book_seen → (before after : Stage) (asks : Asked) (text : List ℕ) (result : Status) → asks.keeping ≢ keeping.OldJournals → IsTrue before.yard.tells.keeps_contents
       → RunsFile pass_seen book_seen before after asks text result → result ≢ status.Corrupt
-  file_sound quiet_laws laws before after asks text result told (no_plan reads none clock says) = no_plan_not before.yard after.yard asks.file text result none
-  file_sound quiet_laws laws before after asks text result told (ran plan kept is valid read reads runs) =
+  file_sound quiet_laws laws before after asks text result anew told (no_plan reads none clock says) = no_plan_not before.yard after.yard asks.file text result none
+  file_sound quiet_laws laws before after asks text result anew told (ran plan kept is valid read reads runs) =
       quietly_sound quiet_laws (rereading asks.again plan) (stage (with_books (map unwritten plan.stores)) read before.clock 0 before.printing) after text result valid
       (told_on before.yard read reads.keeps.tells told) runs
-  file_sound quiet_laws laws before after asks text result told (ran_journaled plan kept is valid read reads runs says keeps) =
+  file_sound quiet_laws laws before after asks text result anew told (ran_journaled plan kept is valid read reads runs says keeps) =
       journaled_sound laws (rereading asks.again plan) (stage [] read before.clock 0 before.printing) after text result valid (told_on before.yard read reads.keeps.tells told) runs
+  file_sound quiet_laws laws before after asks text result anew told (ran_resumed plan kept is valid read reads went same uses) = absurd (anew kept)
 
   pub call_sound : Laws pass_seen quiet_seen → Laws pass_seen book_seen → (a c : YardSeen) (k l : ClockSeen) (taken now : Option (List ℕ)) (m n : ℕ) (asks : Asked) (result : Status)
-      → IsTrue a.tells.keeps_contents → RunCall pass_seen book_seen a c k l taken now m n asks result → result ≢ status.Corrupt
-  call_sound quiet_laws laws a c k l taken now m n asks result told call e =
+      → asks.keeping ≢ keeping.OldJournals → IsTrue a.tells.keeps_contents → RunCall pass_seen book_seen a c k l taken now m n asks result → result ≢ status.Corrupt
+  call_sound quiet_laws laws a c k l taken now m n asks result anew told call e =
       let heard : result ≢ status.Sink = λ f. (let g : status.Corrupt ≡ status.Sink = sym e ∙ f in cc) in
-      file_sound quiet_laws laws (stage [] a k 0 (printing false taken m)) (stage [] c l 0 call.last) asks call.text call.said told call.runs (sym (call.ends.printed_all heard).0 ∙ e)
+      file_sound quiet_laws laws (stage [] a k 0 (printing false taken m)) (stage [] c l 0 call.last) asks call.text call.said anew told call.runs (sym (call.ends.printed_all heard).0 ∙ e)

@@ -11,7 +11,8 @@ use Rattle.still_plan.specs.Frame.{DiskFailed}
 use Rattle.still_store.specs.Frame.{JournalsStay, Keeps}
 use Rattle.vdbench_top.specs.Simulation.{IsSimulated}
 use Rattle.vdbench_top.specs.Still.{DataStays, Ends, FindsNoData, IsHonest, IsNoFault, SaidOfFile}
-use Rattle.vdbench_top.specs.Words.{command_built, file_of, shows_plan, steps_of}
+use Rattle.command_words.specs.Words.{command_said}
+use Rattle.vdbench_top.specs.Words.{file_of, shows_plan, steps_of}
 
 -- A still command over these words: the yard, the bytes that the output took and its faults, before and after, and the status.
 pub record StillCall (words : List (List ℕ)) (old new : YardSeen) (taken_before taken_after : Option (List ℕ)) (faults_before faults_after : ℕ) (result : Status) : Type 0 where
@@ -32,8 +33,8 @@ pub record StillCall (words : List (List ℕ)) (old new : YardSeen) (taken_befor
   pub untouched : result ≢ status.Good → result ≢ status.Corrupt → result ≢ status.Device → result ≢ status.Yard → result ≢ status.Sink →
       result ≢ status.NoMemory → new.contents ≡ old.contents
   -- Words that are no command print the usage, and nothing else ends so.
-  pub usage : command_built words ≡ None → Ends usage_text status.Usage result taken_before taken_after
-  pub usage_only : result ≡ status.Usage → command_built words ≡ None
+  pub usage : command_said words ≡ None → Ends usage_text status.Usage result taken_before taken_after
+  pub usage_only : result ≡ status.Usage → command_said words ≡ None
   -- A schedule that the words ask for is run, and its counts are printed.
   pub simulation : (n : ℕ) → steps_of words ≡ Some n →
       (text : List ℕ) × (said : Status) × IsSimulated n text said × Ends text said result taken_before taken_after

@@ -22,9 +22,15 @@ use Rattle.plan_journaled.specs.Journaled as journaled
 use Rattle.plan_runs.specs.Quiet.{RunsQuietly, none_made, unwritten}
 use Rattle.plan_runs.specs.Quiet as quietly
 use Rattle.plan_runs.specs.Stages.{RunsMade, Stage, is_last, stage}
+use Rattle.plan_resumed.specs.Going.{GoesOn, went_on}
+use Rattle.plan_resumed.specs.Resumed.{RunsResumed}
+use Rattle.plan_resumed.specs.Resumed as resumed
+use Rattle.plan_resumed.specs.Seating.{with_passes}
+use Rattle.plan_journals.specs.Open.{Start}
+use Rattle.plan_verified.specs.Stores.{StoreSeen}
 use Rattle.plan_totals.specs.Made.{MadeRun, PlanRuns, StoreOf, findings_of, made_of, sum_of, texts_of}
 use Rattle.plan_totals.specs.Sentences.{RoseBy}
-use Rattle.vdbench_top.specs.Runs.{RunCall, RunsFile, no_plan, ran, ran_journaled, rereading}
+use Rattle.vdbench_top.specs.Runs.{RunCall, RunsFile, no_plan, ran, ran_journaled, ran_resumed, rereading}
 use Rattle.vdbench_top.specs.Words.{Asked}
 
 module _ {P B : Type 0} (pass_seen : P → PassSeen) (book_seen : B → BookSeen) where
@@ -64,7 +70,7 @@ module _ {P B : Type 0} (pass_seen : P → PassSeen) (book_seen : B → BookSeen
       (valid : IsPlan plan) (stores : AreStores plan before.hands)
       → RunsAddUp (record { plan = plan; before = before; last = last; text = text; result = result; valid = valid; stores = stores; runs = runs })
 
--- What was made adds up: of runs without journals, and of runs over new ones.
+-- What was made adds up: of runs without journals, of runs over new ones, and of runs over those that are there.
 abbrev pub QuietlyAddUp : {P B : Type 0} (pass_seen : P → PassSeen) (book_seen : B → BookSeen) (plan : Plan) (before after : Stage) (text : List ℕ) (result : Status)
     → RunsQuietly pass_seen book_seen plan before after text result → Type 0
 QuietlyAddUp pass_seen book_seen plan before after text result (quietly.all_made last runs hands back clock printing) = AddUp pass_seen book_seen plan before last text result runs
@@ -76,6 +82,18 @@ JournaledAddUp pass_seen book_seen plan before after text result (journaled.ran 
     AddUp pass_seen book_seen plan (stage (with_books books) opened before.clock 0 said) closed.last closed.runs_text closed.work closed.made
 JournaledAddUp pass_seen book_seen plan before after text result other = ⊤
 
+abbrev pub GoingAddsUp : {P B : Type 0} (pass_seen : P → PassSeen) (book_seen : B → BookSeen) (plan : Plan) (starts : List Start) (left : List StoreSeen) (before after : Stage) (text : List ℕ) (result : Status)
+    → GoesOn pass_seen book_seen plan starts left before after text result → Type 0
+GoingAddsUp pass_seen book_seen plan starts left before after text result (went_on books said opened rest closed texts) =
+    AddUp pass_seen book_seen plan (stage (with_passes left books) before.yard before.clock 0 said) closed.last closed.runs_text closed.work closed.made
+GoingAddsUp pass_seen book_seen plan starts left before after text result other = ⊤
+
+abbrev pub ResumedAddUp : {P B : Type 0} (pass_seen : P → PassSeen) (book_seen : B → BookSeen) (plan : Plan) (before after : Stage) (starts : List Start) (text : List ℕ) (result : Status)
+    → RunsResumed pass_seen book_seen plan before after starts text result → Type 0
+ResumedAddUp pass_seen book_seen plan before after starts text result (resumed.resumed found recovered said have seen left verified told looked from rest after_that goes texts is) =
+    GoingAddsUp pass_seen book_seen plan starts left (stage [] verified before.clock 0 told) after rest after_that goes
+ResumedAddUp pass_seen book_seen plan before after starts text result other = ⊤
+
 -- All runs of a command add up.
 abbrev pub FileAddsUp : {P B : Type 0} (pass_seen : P → PassSeen) (book_seen : B → BookSeen) (before after : Stage) (asks : Asked) (text : List ℕ) (result : Status)
     → RunsFile pass_seen book_seen before after asks text result → Type 0
@@ -84,6 +102,8 @@ FileAddsUp pass_seen book_seen before after asks text result (ran plan kept is v
     QuietlyAddUp pass_seen quiet_seen (rereading asks.again plan) (stage (with_books (map unwritten plan.stores)) read before.clock 0 before.printing) after text result runs
 FileAddsUp pass_seen book_seen before after asks text result (ran_journaled plan kept is valid read reads runs says keeps) =
     JournaledAddUp pass_seen book_seen (rereading asks.again plan) (stage [] read before.clock 0 before.printing) after text result runs
+FileAddsUp pass_seen book_seen before after asks text result (ran_resumed plan kept is valid read reads went texts uses) =
+    ResumedAddUp pass_seen book_seen (rereading asks.again plan) (stage [] read before.clock 0 before.printing) after went.starts went.text result went.does
 
 abbrev pub CallAddsUp : {P B : Type 0} {pass_seen : P → PassSeen} {book_seen : B → BookSeen} {old new : YardSeen} {clock_before clock_after : ClockSeen} {taken_before taken_after : Option (List ℕ)} {faults_before faults_after : ℕ} {asks : Asked} {result : Status}
     → RunCall pass_seen book_seen old new clock_before clock_after taken_before taken_after faults_before faults_after asks result → Type 0

@@ -1,5 +1,5 @@
--- What the words of a command ask for, of what is built so far.
-use Rattle.std.specs.Prelude.{ℕ, Bool, true, false, List, Option, Some, None, if◌then◌else◌, ◌||◌, codes, take, drop, slice_get, is_some}
+-- What the words of a command ask for.
+use Rattle.std.specs.Prelude.{ℕ, Bool, true, false, List, Option, Some, None, if◌then◌else◌, codes, take, drop, slice_get}
 use Rattle.std.specs.Option.{option_map}
 use Rattle.std.specs.Str.{bytes_eq}
 use Rattle.command_words.specs.Words.{command_said}
@@ -9,34 +9,15 @@ use Rattle.command_words.specs.declared.command.Mode.TheVariants as mode
 use Rattle.vdbench_top.specs.declared.words.Keeping.{Keeping}
 use Rattle.vdbench_top.specs.declared.words.Keeping.TheVariants as keeping
 
--- a mode that changes nothing outside
-abbrev pub is_still : Mode → Bool
-is_still mode.Show = true
-is_still mode.RecoverOnly = true
-is_still (mode.Simulate n) = true
-is_still mode.Validate = false
-is_still mode.Journal = false
-is_still mode.Recover = false
-
--- how the runs of a mode keep account of their writes: not at all, or in journals that are made anew; other modes make no runs
+-- how the runs of a mode keep account of their writes: not at all, in journals that are made anew, or in those that are there; other modes
+-- make no runs
 abbrev pub keeping_of : Mode → Option Keeping
 keeping_of mode.Validate = Some keeping.Nothing
 keeping_of mode.Journal = Some keeping.NewJournals
+keeping_of mode.Recover = Some keeping.OldJournals
 keeping_of mode.Show = None
 keeping_of mode.RecoverOnly = None
 keeping_of (mode.Simulate n) = None
-keeping_of mode.Recover = None
-
-abbrev pub is_built : Mode → Bool
-is_built mode = is_still mode || is_some (keeping_of mode)
-
-abbrev pub built_only : Option Command → Option Command
-built_only None = None
-built_only (Some command) = if is_built command.mode then Some command else None
-
--- the command that words say, of those that are built
-abbrev pub command_built : List (List ℕ) → Option Command
-command_built words = built_only (command_said words)
 
 -- the parameter file's name in the word that names it: joined to the option, or alone
 abbrev pub name_in : List ℕ → List ℕ
@@ -61,7 +42,7 @@ file_by words (Some command) = file_in words command.file command.mode
 
 -- the name of a still command's parameter file
 abbrev pub file_of : List (List ℕ) → Option (List ℕ)
-file_of words = file_by words (command_built words)
+file_of words = file_by words (command_said words)
 
 abbrev pub steps_in : Mode → Option ℕ
 steps_in mode.Show = None
@@ -77,7 +58,7 @@ steps_by (Some command) = steps_in command.mode
 
 -- the number of a schedule
 abbrev pub steps_of : List (List ℕ) → Option ℕ
-steps_of words = steps_by (command_built words)
+steps_of words = steps_by (command_said words)
 
 abbrev pub is_show : Mode → Bool
 is_show mode.Show = true
@@ -93,7 +74,7 @@ shows_by (Some command) = is_show command.mode
 
 -- whether the plan is to be shown
 abbrev pub shows_plan : List (List ℕ) → Bool
-shows_plan words = shows_by (command_built words)
+shows_plan words = shows_by (command_said words)
 
 -- what a command asks for that runs its plan: the parameter file's name, whether what was written is to be read again, and how account is kept
 pub record Asked : Type 0 where
@@ -114,4 +95,4 @@ run_by words (Some command) = asked_in words command.file command.reread (keepin
 
 -- what words ask for that are a command which runs its plan
 abbrev pub run_of : List (List ℕ) → Option Asked
-run_of words = run_by words (command_built words)
+run_of words = run_by words (command_said words)

@@ -1,5 +1,5 @@
 // A command that runs its plan.
-ghost use Rattle.std.specs.Prelude.{◌≡◌, ◌≢◌, ◌⊎◌, [], IfErr, IfOk, IsTrue, List, None, OnOk, Some, map, string_bytes, ℕ};
+ghost use Rattle.std.specs.Prelude.{◌≡◌, ◌≢◌, ◌⊎◌, [], IfErr, IfOk, IsTrue, List, None, OnOk, Some, map, string_bytes, true, ℕ};
 ghost use Rattle.vd_outside.specs.Causes.{Rose};
 ghost use Rattle.vd_yard.specs.Counts.{arm_faults, source_faults};
 ghost use Rattle.vd_yard.specs.Out.{AtSource};
@@ -8,7 +8,7 @@ ghost use Rattle.plan_types.specs.Valid.{IsPlan};
 ghost use Rattle.run_report.specs.Says.{Says, printing};
 ghost use Rattle.plan_runs.specs.Stages.{stage};
 ghost use Rattle.vdbench_top.specs.Calls.{StillCall};
-ghost use Rattle.vdbench_top.specs.Runs.{CanEndAs, HasNoPlan, MakesJournals, NoJournalEnd, OnlyReads, RunCall, RunsFile, rereading};
+ghost use Rattle.vdbench_top.specs.Runs.{CanEndAs, HasJournals, HasNoPlan, MakesJournals, NoJournalEnd, OnlyReads, RunCall, RunsFile, UsesJournals, rereading};
 ghost use Rattle.vdbench_top.specs.Still.{IsPlanOf};
 ghost use Rattle.vdbench_top.specs.Sums.{CallAddsUp};
 ghost use Rattle.vdbench_top.specs.Words.{Asked, asked, run_of};
@@ -20,6 +20,7 @@ use journal_core::JournalBook;
 use key_state::{Book, QuietBook};
 use plan_file::{Unplanned, plan_of_file};
 use plan_journaled::run_journaled;
+use plan_resumed::run_resumed;
 use plan_runs::run_quietly;
 use plan_totals::runs_add_up;
 use plan_types::Plan;
@@ -79,7 +80,7 @@ fn with_rereads(plan: Plan, again: bool) -> Plan
     plan
 }
 
-/// The runs of the plan of a parameter file, without journals or over new ones.
+/// The runs of the plan of a parameter file, without journals, over new ones, or over those that are there.
 fn run_file<Y: Yard, S: Sink, C: Twin, T: Turnstile, R: Threads + Wait + Sync>(
     rt: &R,
     alloc: Global,
@@ -100,16 +101,19 @@ where
     ensures out { (Y.seen yard.new).out ≡ (Y.seen yard.old).out }
     ensures tells { (Y.seen yard.new).tells ≡ (Y.seen yard.old).tells }
     ensures willing { IsTrue (Y.seen yard.old).willing → IsTrue (Y.seen yard.new).willing }
-    ensures opens { IsTrue (Y.seen yard.old).willing → IsTrue (is_there (Y.seen yard.old).files AtSource file.now) → result ≢ Status.Yard }
+    ensures opens { IsTrue (Y.seen yard.old).willing → IsTrue (is_there (Y.seen yard.old).files AtSource file.now)
+        → HasJournals (Y.seen yard.old) keeping file.now → result ≢ Status.Yard }
     ensures files { StaysThere (Y.seen yard.old).files (Y.seen yard.new).files }
     ensures disks { keeping ≡ Keeping.Nothing → (Y.seen yard.new).disks ≡ (Y.seen yard.old).disks }
     ensures journals { keeping ≡ Keeping.NewJournals → MakesJournals (Y.seen yard.old) (Y.seen yard.new) file.now result }
+    ensures resumes { keeping ≡ Keeping.OldJournals → UsesJournals (Y.seen yard.old) (Y.seen yard.new) file.now result }
     ensures yard_fault { result ≡ Status.Yard → Rose (Y.seen yard.old).faults (Y.seen yard.new).faults }
     ensures yard_quiet { result ≢ Status.Yard → result ≢ Status.NoMemory → (Y.seen yard.new).faults ≡ (Y.seen yard.old).faults }
     ensures source_fault { result ≡ Status.Source → Rose (source_faults (Y.seen yard.old).counts file.now) (source_faults (Y.seen yard.new).counts file.now) }
     ensures source_quiet { result ≢ Status.Source → result ≢ Status.NoMemory → (path : List ℕ) → source_faults (Y.seen yard.new).counts path ≡ source_faults (Y.seen yard.old).counts path }
     ensures device_fault { result ≡ Status.Device → (path : List ℕ) × Rose (arm_faults (Y.seen yard.old).counts path) (arm_faults (Y.seen yard.new).counts path) }
-    ensures device_quiet { result ≢ Status.Device → result ≢ Status.Yard → result ≢ Status.NoMemory → (keeping ≡ Keeping.NewJournals → NoJournalEnd result) → (path : List ℕ) → arm_faults (Y.seen yard.new).counts path ≡ arm_faults (Y.seen yard.old).counts path }
+    ensures device_quiet { result ≢ Status.Device → result ≢ Status.Yard → result ≢ Status.Sink → result ≢ Status.NoMemory → (keeping ≢ Keeping.Nothing → NoJournalEnd result) → (path : List ℕ) → arm_faults (Y.seen yard.new).counts path ≡ arm_faults (Y.seen yard.old).counts path }
+    ensures output { result ≡ Status.Sink → printer.new.failed ≡ true }
     ensures can { CanEndAs keeping result }
 {
     let plan = match plan_of(alloc, yard, file, printer, out) {
@@ -119,10 +123,11 @@ where
     match keeping {
         Keeping::Nothing => run_quietly(rt, alloc, &plan, yard, clock, gate, printer, out),
         Keeping::NewJournals => run_journaled(rt, alloc, &plan, yard, clock, gate, printer, out),
+        Keeping::OldJournals => run_resumed(rt, alloc, &plan, yard, clock, gate, printer, out),
     }
 }
 
-/// The runs of the plan of the parameter file of this name, without journals or over new ones.
+/// The runs of the plan of the parameter file of this name, without journals, over new ones, or over those that are there.
 fn run_named<Y: Yard, S: Sink, C: Twin, T: Turnstile, R: Threads + Wait + Sync>(
     rt: &R,
     alloc: Global,
@@ -140,16 +145,18 @@ where
     ensures out { (Y.seen yard.new).out ≡ (Y.seen yard.old).out }
     ensures tells { (Y.seen yard.new).tells ≡ (Y.seen yard.old).tells }
     ensures willing { IsTrue (Y.seen yard.old).willing → IsTrue (Y.seen yard.new).willing }
-    ensures opens { IsTrue (Y.seen yard.old).willing → IsTrue (is_there (Y.seen yard.old).files AtSource name.now) → result ≢ Status.Yard }
+    ensures opens { IsTrue (Y.seen yard.old).willing → IsTrue (is_there (Y.seen yard.old).files AtSource name.now)
+        → HasJournals (Y.seen yard.old) keeping name.now → result ≢ Status.Yard }
     ensures files { StaysThere (Y.seen yard.old).files (Y.seen yard.new).files }
     ensures disks { keeping ≡ Keeping.Nothing → (Y.seen yard.new).disks ≡ (Y.seen yard.old).disks }
     ensures journals { keeping ≡ Keeping.NewJournals → MakesJournals (Y.seen yard.old) (Y.seen yard.new) name.now result }
+    ensures resumes { keeping ≡ Keeping.OldJournals → UsesJournals (Y.seen yard.old) (Y.seen yard.new) name.now result }
     ensures yard_fault { result ≡ Status.Yard → Rose (Y.seen yard.old).faults (Y.seen yard.new).faults }
     ensures yard_quiet { result ≢ Status.Yard → result ≢ Status.Sink → result ≢ Status.NoMemory → (Y.seen yard.new).faults ≡ (Y.seen yard.old).faults }
     ensures source_fault { result ≡ Status.Source → Rose (source_faults (Y.seen yard.old).counts name.now) (source_faults (Y.seen yard.new).counts name.now) }
     ensures source_quiet { result ≢ Status.Source → result ≢ Status.Sink → result ≢ Status.NoMemory → (path : List ℕ) → source_faults (Y.seen yard.new).counts path ≡ source_faults (Y.seen yard.old).counts path }
     ensures device_fault { result ≡ Status.Device → (path : List ℕ) × Rose (arm_faults (Y.seen yard.old).counts path) (arm_faults (Y.seen yard.new).counts path) }
-    ensures device_quiet { result ≢ Status.Device → result ≢ Status.Yard → result ≢ Status.Sink → result ≢ Status.NoMemory → (keeping ≡ Keeping.NewJournals → NoJournalEnd result) → (path : List ℕ) → arm_faults (Y.seen yard.new).counts path ≡ arm_faults (Y.seen yard.old).counts path }
+    ensures device_quiet { result ≢ Status.Device → result ≢ Status.Yard → result ≢ Status.Sink → result ≢ Status.NoMemory → (keeping ≢ Keeping.Nothing → NoJournalEnd result) → (path : List ℕ) → arm_faults (Y.seen yard.new).counts path ≡ arm_faults (Y.seen yard.old).counts path }
     ensures can { (result ≡ Status.Sink) ⊎ CanEndAs keeping result }
     ensures sink_fault { result ≡ Status.Sink → Rose (S.faults out.old) (S.faults out.new) }
     ensures sink_quiet { result ≢ Status.Sink → S.faults out.new ≡ S.faults out.old }
@@ -173,8 +180,8 @@ where
     end(status, &mut printer, out)
 }
 
-/// A command: a still one, or the runs of a plan, without journals or over new ones. `words` are those after the program's name. It answers
-/// the status that the command ends with. Workers may wait for a store's book, and rest until their turns are due.
+/// A command: a still one, or the runs of a plan, without journals, over new ones, or over those that are there. `words` are those after the
+/// program's name. It answers the status that the command ends with. Workers may wait for a store's book, and rest until their turns are due.
 pub fn vdbench<Y: Yard, S: Sink, C: Twin, T: Turnstile, R: Threads + Wait + Sync>(
     rt: &R,
     alloc: Global,
@@ -199,9 +206,10 @@ where
     ensures tells { (Y.seen yard.new).tells ≡ (Y.seen yard.old).tells }
     ensures willing { IsTrue (Y.seen yard.old).willing → IsTrue (Y.seen yard.new).willing }
     ensures files { StaysThere (Y.seen yard.old).files (Y.seen yard.new).files }
-    // A willing yard that has the parameter file refuses no runs.
+    // A willing yard that has the parameter file refuses no runs, nor those over journals that are there, where it has these.
     ensures opens { (asks : Asked) → run_of (map string_bytes words.now) ≡ Some asks → IsTrue (Y.seen yard.old).willing →
-        IsTrue (is_there (Y.seen yard.old).files AtSource asks.file) → result ≢ Status.Yard }
+        IsTrue (is_there (Y.seen yard.old).files AtSource asks.file)
+        → HasJournals (Y.seen yard.old) asks.keeping asks.file → result ≢ Status.Yard }
 
     // Runs without journals touch no journal. Over new ones, of the kept disks only those of the plan's journals change: from the end of its
     // opening on each image that is told recovers to one legal history, and before it, of a disk that was at rest, to what it gave, no journal,
@@ -209,6 +217,9 @@ where
     // that none failed with another status isn't said.
     ensures disks { (asks : Asked) → run_of (map string_bytes words.now) ≡ Some asks → asks.keeping ≡ Keeping.Nothing → (Y.seen yard.new).disks ≡ (Y.seen yard.old).disks }
     ensures journals { (asks : Asked) → run_of (map string_bytes words.now) ≡ Some asks → asks.keeping ≡ Keeping.NewJournals → MakesJournals (Y.seen yard.old) (Y.seen yard.new) asks.file result }
+    // Over those that are there each that is opened begins the epoch behind the recovered one, and the same holds of it; where none is, the kept
+    // disks are only read.
+    ensures resumes { (asks : Asked) → run_of (map string_bytes words.now) ≡ Some asks → asks.keeping ≡ Keeping.OldJournals → UsesJournals (Y.seen yard.old) (Y.seen yard.new) asks.file result }
 
     // Each status of another outside fault has its cause, over whatever yard and output, and with each other status, want of memory and a
     // failed output aside, nothing of that kind failed; that the yard refused to open something, or that a journal failed or is at its end, may hide
@@ -220,19 +231,19 @@ where
     ensures source_quiet { result ≢ Status.Source → result ≢ Status.Sink → result ≢ Status.NoMemory → (path : List ℕ) → source_faults (Y.seen yard.new).counts path ≡ source_faults (Y.seen yard.old).counts path }
     ensures device_fault { result ≡ Status.Device → (path : List ℕ) × Rose (arm_faults (Y.seen yard.old).counts path) (arm_faults (Y.seen yard.new).counts path) }
     ensures device_quiet { result ≢ Status.Device → result ≢ Status.Yard → result ≢ Status.Sink → result ≢ Status.NoMemory
-        → ((asks : Asked) → run_of (map string_bytes words.now) ≡ Some asks → asks.keeping ≡ Keeping.NewJournals → NoJournalEnd result)
+        → ((asks : Asked) → run_of (map string_bytes words.now) ≡ Some asks → asks.keeping ≢ Keeping.Nothing → NoJournalEnd result)
         → (path : List ℕ) → arm_faults (Y.seen yard.new).counts path ≡ arm_faults (Y.seen yard.old).counts path }
     ensures sink_fault { result ≡ Status.Sink → Rose (S.faults out.old) (S.faults out.new) }
     ensures sink_quiet { result ≢ Status.Sink → S.faults out.new ≡ S.faults out.old }
 
     // What the runs printed adds up: with its errors, its stores' books, and the counts of their paths. And where the yard tells the data that
-    // it keeps, none of these commands ends by the status of a corrupt block.
+    // it keeps, none of these commands ends by the status of a corrupt block, but one over old journals, which verifies what it finds.
     ensures adds_up { (asks : Asked) → run_of (map string_bytes words.now) ≡ Some asks →
         (call : RunCall Y.Arm.Pass.seen ⟦<JournalBook<Y::Disk> as Book>⟧.seen (Y.seen yard.old) (Y.seen yard.new) (C.seen clock.old) (C.seen clock.new) (S.taken out.old) (S.taken out.new) (S.faults out.old) (S.faults out.new) asks result) → CallAddsUp call }
-    ensures sound { (asks : Asked) → run_of (map string_bytes words.now) ≡ Some asks → IsTrue (Y.seen yard.old).tells.keeps_contents → result ≢ Status.Corrupt }
+    ensures sound { (asks : Asked) → run_of (map string_bytes words.now) ≡ Some asks → asks.keeping ≢ Keeping.OldJournals → IsTrue (Y.seen yard.old).tells.keeps_contents → result ≢ Status.Corrupt }
 
     // Runs without journals end by none of the statuses of journals or of words; those over new journals by none of words or of what a
-    // journal has in it.
+    // journal has in it; and those over old ones by none of words.
     ensures can { (asks : Asked) → run_of (map string_bytes words.now) ≡ Some asks → (result ≡ Status.Sink) ⊎ CanEndAs asks.keeping result }
 {
     runs_add_up::<<Y::Arm as Arm>::Pass, QuietBook>();

@@ -246,8 +246,8 @@ pub fn vdbench_still<Y: Yard, S: Sink>(
         result ≢ Status.NoMemory → (Y.seen yard.new).contents ≡ (Y.seen yard.old).contents }
 
     // Words that are no command print the usage, and nothing else ends so.
-    ensures usage { command_built (map string_bytes words.now) ≡ None → Ends usage_text Status.Usage result (S.taken out.old) (S.taken out.new) }
-    ensures usage_only { result ≡ Status.Usage → command_built (map string_bytes words.now) ≡ None }
+    ensures usage { command_said (map string_bytes words.now) ≡ None → Ends usage_text Status.Usage result (S.taken out.old) (S.taken out.new) }
+    ensures usage_only { result ≡ Status.Usage → command_said (map string_bytes words.now) ≡ None }
 
     // A schedule that the words ask for is run, and its counts are printed.
     ensures simulation { (n : ℕ) → steps_of (map string_bytes words.now) ≡ Some n →
@@ -300,5 +300,6 @@ ghost use Rattle.run_report.specs.Says.{SaysFront};
 ghost use Rattle.run_report.specs.Plans.{plan_text};
 ghost use Rattle.run_report.specs.declared.status.Status.{Status as AStatus};
 ghost use Rattle.run_report.specs.Lines.{usage_text};
-ghost use Rattle.vdbench_top.specs.Words.{command_built, file_of, run_of, shows_plan as shows_plan_of, steps_of};
+ghost use Rattle.command_words.specs.Words.{command_said};
+ghost use Rattle.vdbench_top.specs.Words.{file_of, run_of, shows_plan as shows_plan_of, steps_of};
 ghost use Rattle.vdbench_top.specs.Simulation.{IsSimulated};

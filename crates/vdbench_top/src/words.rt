@@ -1,7 +1,8 @@
-// What the words of a command ask for, of what is built so far.
+// What the words of a command ask for.
 ghost use Rattle.std.specs.Prelude.{◌≡◌, IfSome, Some, None, map, string_bytes, length};
 ghost use Rattle.std.specs.Option.{option_map};
-ghost use Rattle.vdbench_top.specs.Words.{command_built, file_of, is_built as built_mode, is_show as shows_mode, asked, is_still as still_mode, keeping_of as keeping_in, name_at as name_at_word, name_in as name_in_word, run_of, shows_plan as plan_shown, steps_of};
+ghost use Rattle.command_words.specs.Words.{command_said};
+ghost use Rattle.vdbench_top.specs.Words.{file_of, is_show as shows_mode, asked, keeping_of as keeping_in, name_at as name_at_word, name_in as name_in_word, run_of, shows_plan as plan_shown, steps_of};
 
 use command_words::{Command, Mode};
 
@@ -12,16 +13,8 @@ pub enum Keeping {
     Nothing,
     /// In a journal for each store, made anew.
     NewJournals,
-}
-
-fn is_still(mode: Mode) -> bool
-    ensures { result ≡ still_mode mode }
-{
-    match mode {
-        Mode::Show | Mode::RecoverOnly => true,
-        Mode::Simulate(_) => true,
-        Mode::Validate | Mode::Journal | Mode::Recover => false,
-    }
+    /// In the journals that the stores have, which are recovered first.
+    OldJournals,
 }
 
 /// How the runs of a mode keep what was written, where it makes runs.
@@ -31,31 +24,19 @@ fn keeping_of(mode: Mode) -> Option<Keeping>
     match mode {
         Mode::Validate => Some(Keeping::Nothing),
         Mode::Journal => Some(Keeping::NewJournals),
+        Mode::Recover => Some(Keeping::OldJournals),
         Mode::Show | Mode::RecoverOnly => None,
         Mode::Simulate(_) => None,
-        Mode::Recover => None,
     }
 }
 
-fn is_built(mode: Mode) -> bool
-    ensures { result ≡ built_mode mode }
-{
-    is_still(mode) || keeping_of(mode).is_some()
-}
-
-/// The command that the words say, of those that are built: `-s`, `-jro`, `-sim`, `-j`, and `-v`, `-vr` or none of the modes. None for
-/// all other words.
+/// The command that the words say: `-s`, `-jro`, `-sim`, `-j`, `-jr`, and `-v`, `-vr` or none of the modes. None for all other words.
 pub fn command_of(words: &[String]) -> Option<Command>
-    ensures built { result ≡ command_built (map string_bytes words.now) }
+    ensures said { result ≡ command_said (map string_bytes words.now) }
     // Each command has a parameter file or a number of steps.
-    ensures asks { file_of (map string_bytes words.now) ≡ None → run_of (map string_bytes words.now) ≡ None → steps_of (map string_bytes words.now) ≡ None → command_built (map string_bytes words.now) ≡ None }
+    ensures asks { file_of (map string_bytes words.now) ≡ None → run_of (map string_bytes words.now) ≡ None → steps_of (map string_bytes words.now) ≡ None → command_said (map string_bytes words.now) ≡ None }
 {
-    let command = command_words::command_of(words)?;
-    if is_built(command.mode) {
-        Some(command)
-    } else {
-        None
-    }
+    command_words::command_of(words)
 }
 
 /// The parameter file's name in the word that names it: joined to `-f`, or alone.
@@ -77,7 +58,7 @@ fn name_at(words: &[String], file: Option<u32>) -> Option<&str>
 /// The name of the parameter file, where the words are a still command over one.
 pub fn file_of_words(words: &[String]) -> Option<&str>
     ensures file { option_map (λ name. name.now) result ≡ file_of (map string_bytes words.now) }
-    ensures asks { file_of (map string_bytes words.now) ≡ None → run_of (map string_bytes words.now) ≡ None → steps_of (map string_bytes words.now) ≡ None → command_built (map string_bytes words.now) ≡ None }
+    ensures asks { file_of (map string_bytes words.now) ≡ None → run_of (map string_bytes words.now) ≡ None → steps_of (map string_bytes words.now) ≡ None → command_said (map string_bytes words.now) ≡ None }
 {
     let command = command_of(words)?;
     match command.mode {

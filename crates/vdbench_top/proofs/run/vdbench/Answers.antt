@@ -1,8 +1,12 @@
-use Rattle.vdbench_top.specs.Runs.{MakesJournals}
+use Rattle.vdbench_top.specs.Runs.{HasJournals, MakesJournals, UsesJournals}
 use Rattle.vdbench_top.specs.Words.{Asked, asked}
 use Rattle.vdbench_top.specs.declared.words.Keeping.TheVariants as keeping
-use Rattle.std.proofs.Common.{◌≡◌}
-use Rattle.vdbench_top.proofs.Runs.{holds_as}
+use Rattle.std.proofs.Common.{◌≡◌, IsTrue}
+use Rattle.std.specs.Prelude.{◌≢◌}
+use Rattle.vd_yard.specs.Out.{AtSource}
+use Rattle.vd_yard.specs.Yard.{is_there}
+use Rattle.run_report.specs.declared.status.Status.TheVariants as status
+use Rattle.vdbench_top.proofs.Runs.{call_as, holds_as}
 use Rattle.vdbench_top.proofs.Sums.{call_sound, file_adds}
 use Rattle.vdbench_top.proofs.run.vdbench.Goals as goal
 
@@ -11,10 +15,20 @@ returns-in-Some-clause-journals g c asks is kept =
     holds_as (λ (x : Asked). x.keeping ≡ keeping.NewJournals → MakesJournals (g.Y.Yard.seen c.args.yard.now) (g.Y.Yard.seen c.run_named.new.yard) x.file c.run_named.result)
     (asked c.in-Some.name.now c.in-Some.again c.in-Some.keeping) asks _ c.in-Some.ensures is c.run_named.ensures.journals kept
 
+pub returns-in-Some-clause-resumes : goal.returns-in-Some-clause-resumes
+returns-in-Some-clause-resumes g c asks is kept =
+    holds_as (λ (x : Asked). x.keeping ≡ keeping.OldJournals → UsesJournals (g.Y.Yard.seen c.args.yard.now) (g.Y.Yard.seen c.run_named.new.yard) x.file c.run_named.result)
+    (asked c.in-Some.name.now c.in-Some.again c.in-Some.keeping) asks _ c.in-Some.ensures is c.run_named.ensures.resumes kept
+
+pub returns-in-Some-clause-opens : goal.returns-in-Some-clause-opens
+returns-in-Some-clause-opens g c asks is =
+    holds_as (λ (x : Asked). IsTrue (g.Y.Yard.seen c.args.yard.now).willing → IsTrue (is_there (g.Y.Yard.seen c.args.yard.now).files AtSource x.file) → HasJournals (g.Y.Yard.seen c.args.yard.now) x.keeping x.file → c.run_named.result ≢ status.Yard)
+    (asked c.in-Some.name.now c.in-Some.again c.in-Some.keeping) asks _ c.in-Some.ensures is c.run_named.ensures.opens
+
 pub returns-in-Some-clause-adds_up : goal.returns-in-Some-clause-adds_up
 returns-in-Some-clause-adds_up g c asks is call =
     file_adds _ _ (record { first = c.runs_add_up.ensures.first; below = c.runs_add_up.ensures.below; left_out = c.runs_add_up.ensures.left_out; text = c.runs_add_up.ensures.text; refused = c.runs_add_up.ensures.refused; errors = c.runs_add_up.ensures.errors; writes = c.runs_add_up.ensures.writes; reads = c.runs_add_up.ensures.reads; faults = c.runs_add_up.ensures.faults; good_writes = c.runs_add_up.ensures.good_writes; corrupt = c.runs_add_up.ensures.corrupt; clean = c.runs_add_up.ensures.clean; unwritten = c.runs_add_up.ensures.unwritten }) (record { first = c.runs_add_up-2.ensures.first; below = c.runs_add_up-2.ensures.below; left_out = c.runs_add_up-2.ensures.left_out; text = c.runs_add_up-2.ensures.text; refused = c.runs_add_up-2.ensures.refused; errors = c.runs_add_up-2.ensures.errors; writes = c.runs_add_up-2.ensures.writes; reads = c.runs_add_up-2.ensures.reads; faults = c.runs_add_up-2.ensures.faults; good_writes = c.runs_add_up-2.ensures.good_writes; corrupt = c.runs_add_up-2.ensures.corrupt; clean = c.runs_add_up-2.ensures.clean; unwritten = c.runs_add_up-2.ensures.unwritten }) _ _ asks call.text call.said call.runs
 
 pub returns-in-Some-clause-sound : goal.returns-in-Some-clause-sound
-returns-in-Some-clause-sound g c asks is told =
-    call_sound _ _ (record { first = c.runs_add_up.ensures.first; below = c.runs_add_up.ensures.below; left_out = c.runs_add_up.ensures.left_out; text = c.runs_add_up.ensures.text; refused = c.runs_add_up.ensures.refused; errors = c.runs_add_up.ensures.errors; writes = c.runs_add_up.ensures.writes; reads = c.runs_add_up.ensures.reads; faults = c.runs_add_up.ensures.faults; good_writes = c.runs_add_up.ensures.good_writes; corrupt = c.runs_add_up.ensures.corrupt; clean = c.runs_add_up.ensures.clean; unwritten = c.runs_add_up.ensures.unwritten }) (record { first = c.runs_add_up-2.ensures.first; below = c.runs_add_up-2.ensures.below; left_out = c.runs_add_up-2.ensures.left_out; text = c.runs_add_up-2.ensures.text; refused = c.runs_add_up-2.ensures.refused; errors = c.runs_add_up-2.ensures.errors; writes = c.runs_add_up-2.ensures.writes; reads = c.runs_add_up-2.ensures.reads; faults = c.runs_add_up-2.ensures.faults; good_writes = c.runs_add_up-2.ensures.good_writes; corrupt = c.runs_add_up-2.ensures.corrupt; clean = c.runs_add_up-2.ensures.clean; unwritten = c.runs_add_up-2.ensures.unwritten }) _ _ _ _ _ _ _ _ _ _ told c.run_named.ensures.call
+returns-in-Some-clause-sound g c asks is anew told =
+    call_sound _ _ (record { first = c.runs_add_up.ensures.first; below = c.runs_add_up.ensures.below; left_out = c.runs_add_up.ensures.left_out; text = c.runs_add_up.ensures.text; refused = c.runs_add_up.ensures.refused; errors = c.runs_add_up.ensures.errors; writes = c.runs_add_up.ensures.writes; reads = c.runs_add_up.ensures.reads; faults = c.runs_add_up.ensures.faults; good_writes = c.runs_add_up.ensures.good_writes; corrupt = c.runs_add_up.ensures.corrupt; clean = c.runs_add_up.ensures.clean; unwritten = c.runs_add_up.ensures.unwritten }) (record { first = c.runs_add_up-2.ensures.first; below = c.runs_add_up-2.ensures.below; left_out = c.runs_add_up-2.ensures.left_out; text = c.runs_add_up-2.ensures.text; refused = c.runs_add_up-2.ensures.refused; errors = c.runs_add_up-2.ensures.errors; writes = c.runs_add_up-2.ensures.writes; reads = c.runs_add_up-2.ensures.reads; faults = c.runs_add_up-2.ensures.faults; good_writes = c.runs_add_up-2.ensures.good_writes; corrupt = c.runs_add_up-2.ensures.corrupt; clean = c.runs_add_up-2.ensures.clean; unwritten = c.runs_add_up-2.ensures.unwritten }) _ _ _ _ _ _ _ _ _ _ anew told (call_as _ _ _ _ _ _ _ _ _ _ (asked c.in-Some.name.now c.in-Some.again c.in-Some.keeping) _ asks _ c.in-Some.ensures is c.run_named.ensures.call)
