@@ -1,0 +1,10 @@
+mod Levels
+mod Held
+mod Percents
+mod Cycles
+mod Texts
+mod Padded
+mod Paths
+mod Placed
+mod Differ
+mod Trees
