@@ -44,7 +44,7 @@ by_elements xs ys d long each =
     fill_by_all (λ i. get_or ys i d) xs (length ys) d long each ∙ sym (fill_by_all (λ i. get_or ys i d) ys (length ys) d refl (λ k inside. refl))
 
 -- There is one map, and one first place that has no entry; not both.
-one_map : (sectors : Sectors) (live : Live) (a b : List Entry) → IsMap sectors live a → IsMap sectors live b → a ≡ b
+pub one_map : (sectors : Sectors) (live : Live) (a b : List Entry) → IsMap sectors live a → IsMap sectors live b → a ≡ b
 one_map sectors live a b is_a is_b =
     by_elements a b Bad (is_a.one_each ∙ sym is_b.one_each)
     (λ k inside.
@@ -52,7 +52,7 @@ one_map sectors live a b is_a is_b =
     let there : k < blocks_of live = omega (arith, inside, is_b.one_each) in
     same_entry _ (k % 256) (get_or a k Bad) (get_or b k Bad) (is_a.each k (omega arith) high there).bytes (is_b.each k (omega arith) high there).bytes)
 
-map_or_fault : (sectors : Sectors) (live : Live) (entries : List Entry) (k : ℕ) → IsMap sectors live entries → IsMapFault sectors live k → ⊥
+pub map_or_fault : (sectors : Sectors) (live : Live) (entries : List Entry) (k : ℕ) → IsMap sectors live entries → IsMapFault sectors live k → ⊥
 map_or_fault sectors live entries k is fault = elim (cases_lt k (blocks_of live)) [
   | inl there ↦ fault.none (get_or entries k Bad) (is.each k (omega arith) fault.within.1 there)
   | inr past ↦ fault.none (Settled 0) (is.rest k (omega arith) fault.within.1 past)

@@ -1,6 +1,8 @@
 mod Answering
-mod Gets
+pub mod CameThrough
+pub mod Gets
+pub mod Handed
 mod Live
-mod LogRecords
+pub mod LogRecords
 mod MapPlaces
 mod Records

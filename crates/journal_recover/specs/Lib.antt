@@ -1,5 +1,6 @@
 pub mod Causes
 pub mod Gates
+pub mod Sinks
 pub mod Maps
 pub mod Logs
 pub mod Answers

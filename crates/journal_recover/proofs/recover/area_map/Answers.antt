@@ -1,6 +1,6 @@
 use Rattle.std.proofs.Common.{rules, ◌≡◌, ◌≤◌, length, subst, arith}
 use Rattle.journal_layout.specs.Recovery.{IsMapSlot, Fills, IsFirstBad, map_places, journal_end, blocks_of}
-use Rattle.journal_recover.proofs.recover.live_map.Goals as goal
+use Rattle.journal_recover.proofs.recover.area_map.Goals as goal
 
 pub returns-in-Ok-clause-reads : goal.returns-in-Ok-clause-reads
 returns-in-Ok-clause-reads g c = λ x told.

@@ -1,0 +1,4 @@
+mod Area
+mod Legal
+mod Listed
+mod Those
