@@ -15,3 +15,7 @@ pub mod Stills
 pub mod Sentences
 pub mod Taking
 pub mod Turnwise
+pub mod Totals
+pub mod Drawing
+pub mod Claims
+pub mod Draws

@@ -4,4 +4,5 @@ pub mod Standings
 pub mod Ends
 pub mod Sentences
 pub mod Works
+pub mod Drawn
 pub mod Hands

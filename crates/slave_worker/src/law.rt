@@ -1,4 +1,5 @@
-// What a worker's turns add up to.
+// What a worker's turns add up to, and what they have to do with its draw.
+ghost use Rattle.slave_worker.specs.Drawn.{AllTurnsAddUp, BadSkipsAreNone, BlocksAreUsed, NoMoreThanDrawn, OneBlockTurnsAddUp, OneWorkerDoesItsDraw, OneWorkerIsNeverBusy, RereadsAreWrites, StillRunsMakeAllTurns, TurnsAreDrawn, TurnsAreFew};
 ghost use Rattle.slave_worker.specs.Sentences.{BytesAreMoved, CorruptAreBad, FaultsAreCounted, FaultsAreFound, NoMoreCorrupt, NotedOnce, PrereadsOfTurns, ReadsAreGood, ReadsOfTurns, RefusalsAreMet, RereadsOfTurns, RowsAddUp, RowsHaveTurns, RowsMissOne, WritesAreEnded, WritesAreGood};
 
 use worker_tally::rows_add_up;
@@ -22,6 +23,24 @@ pub fn turns_add_up()
     ensures reread_turns { RereadsOfTurns }
     ensures refusals { RefusalsAreMet }
     ensures bytes { BytesAreMoved }
+{
+    rows_add_up();
+}
+
+/// What a worker's numbers have to do with the turns of its draw, by what `work` tells of it; and what those of all workers of a store,
+/// whose table was closed, have to do with the blocks that were drawn.
+pub fn draws_add_up()
+    ensures drawn { TurnsAreDrawn }
+    ensures few { TurnsAreFew }
+    ensures still { StillRunsMakeAllTurns }
+    ensures all_turns { AllTurnsAddUp }
+    ensures rereads { RereadsAreWrites }
+    ensures one_block { OneBlockTurnsAddUp }
+    ensures no_more { NoMoreThanDrawn }
+    ensures never_busy { OneWorkerIsNeverBusy }
+    ensures whole_draw { OneWorkerDoesItsDraw }
+    ensures no_badskips { BadSkipsAreNone }
+    ensures used { BlocksAreUsed }
 {
     rows_add_up();
 }
