@@ -1,7 +1,7 @@
 mod Saying
 mod Following
 mod Stopping
-mod Ending
+pub mod Ending
 mod Closed
 pub mod Anew
 mod Recovering

@@ -4,7 +4,7 @@ use Rattle.std.specs.Prelude.{Option, Some, OnOk, IfErr}
 use Rattle.std.proofs.lemmas.List.{length-map, take_all}
 use Rattle.std.proofs.lemmas.List.Elements.{All-cons, All-nil}
 use Rattle.vd_outside.specs.Causes.{Rose}
-use Rattle.vd_disk.specs.Disk.{DiskSeen}
+use Rattle.vd_disk.specs.Disk.{DiskSeen, Extends}
 use Rattle.vd_yard.specs.Kept.{Kept, kept_at}
 use Rattle.vd_yard.specs.Out.{Out, AtDisk, one_more, one_more_cancel, one_more_here, out_at}
 use Rattle.vd_yard.specs.Yard.{YardSeen, Tells}
@@ -36,7 +36,7 @@ use Rattle.plan_journals.proofs.Growing.{first_among, path_among}
 use Rattle.plan_journals.proofs.Openings.{opened_now}
 use Rattle.plan_journals.proofs.Places.{place_later}
 use Rattle.plan_reopened.specs.Kept.{AreStillKept}
-use Rattle.plan_reopened.specs.Reopening.{AllReopened, AreReady, CanReopen, IsLow, KeepsEach, OneReopened, ReopenStop, ReopeningEnds, ReopeningEndsAt, StandReopened, last_is_over, memory_out, next_start, next_starts, not_reopened, refusal_line, refusal_status, starts_text}
+use Rattle.plan_reopened.specs.Reopening.{AllReopened, AreOpenedOn, AreReady, CanReopen, IsLow, IsOpenedOn, KeepsEach, OneReopened, ReopenStop, ReopeningEnds, ReopeningEndsAt, StandReopened, last_is_over, memory_out, next_start, next_starts, not_reopened, refusal_line, refusal_status, starts_text}
 use Rattle.plan_reopened.specs.declared.reopening.NotReopened.{NotReopened}
 use Rattle.plan_reopened.specs.declared.reopening.NotReopened.TheVariants as refusal
 use Rattle.plan_reopened.proofs.Keeping.{out_swap}
@@ -57,6 +57,15 @@ pub reopened_now : (yard : YardSeen) (store : StorePlan) (live : Live) (entries 
     → (IsTrue yard.tells.keeps_disks → IsHanded (kept_at yard.disks store.journal) given) → KeepsStory held → IsOpenedNow yard (next_start store live entries) (seen_held held)
 reopened_now yard store live entries given held e o ready hands keeps =
     opened_now yard (next_start store live entries) given held (subst (λ (l : Live). IsOpened given held.began held.opened held.disk held.memory l entries) (next_live store live entries e) o) ready hands keeps
+
+-- It is opened on the disk that was handed in.
+pub opened_on : (live : Live) (entries : List Entry) (given : DiskSeen) (held : Held) → IsOpened given held.began held.opened held.disk held.memory live entries → IsOpenedOn given (seen_held held)
+opened_on live entries given held o = record {
+  its_moments = ap (λ (d : DiskSeen). d.moments) o.since;
+  its_sectors = ap (λ (d : DiskSeen). d.told) o.since;
+  its_faults = ap (λ (d : DiskSeen). d.faults) o.since;
+  grown = subst (λ (d : DiskSeen). Extends given.moments d.moments) (sym o.ended) o.goes_on.earlier;
+}
 
 pub refused_disk : (store : StorePlan) (live : Live) (entries : List Entry) (kept : Option DiskSeen) (given back : DiskSeen) (why : OpenFault) → live.id ≡ store.id → IsHanded kept given → NotOpened live entries given back why → Journaled (next_start store live entries) kept back
 refused_disk store live entries kept given back (fault.EpochEnd epoch) e h n = given_back (subst (IsHanded kept) (sym n.2) h)
@@ -344,6 +353,24 @@ pub ends_more : {T : Type 0} (result : Result T Status) (a b c : YardSeen) (stor
 ends_more (Ok v) a b c stores store rest all start starts before mid now p q r e f one s = tt
 ends_more (Err k) a b c stores store rest all start starts before mid now p q r e f one s =
     subst (λ (x : List Start). ReopeningEnds a c stores x before now p r k) (sym f) (ends_there a b c stores store rest start starts before mid now p q r k e one s)
+
+-- ---- the disks on which they are opened
+pub none_opened : {A : Type 0} (seen : A → BookSeen) (disks : List DiskSeen) (was now : List A) → now ≡ was → (more : List BookSeen) × (map seen now ≡ map seen was ++ more) × AreOpenedOn disks more
+none_opened seen disks was now e = ([], ap (map seen) e ∙ sym (append-nil (map seen was)), tt)
+
+pub disks_more : (all : List DiskSeen) (first : DiskSeen) (disks : List DiskSeen) (was mid now : List BookSeen) → all ≡ first ∷ disks → (b : BookSeen) × (mid ≡ was ++ b ∷ []) × IsOpenedOn first b
+    → (more : List BookSeen) × (now ≡ mid ++ more) × AreOpenedOn disks more → (more : List BookSeen) × (now ≡ was ++ more) × AreOpenedOn all more
+disks_more all first disks was mid now e (b, book, its) (more, books, rest) =
+    (b ∷ more, books ∙ ap (λ (h : List BookSeen). h ++ more) book ∙ append_assoc was (b ∷ []) more, subst (λ (d : List DiskSeen). AreOpenedOn d (b ∷ more)) (sym e) (its, rest))
+
+on_more : (first : DiskSeen) (disks : List DiskSeen) (more : List BookSeen) → AreOpenedOn (first ∷ []) more → AreOpenedOn (first ∷ disks) more
+on_more first disks [] on = tt
+on_more first disks (b ∷ []) on = (on.0, tt)
+on_more first disks (b ∷ other ∷ more) on = absurd on.1
+
+pub disks_first : (all : List DiskSeen) (first : DiskSeen) (disks : List DiskSeen) (was now : List BookSeen) → all ≡ first ∷ disks → (more : List BookSeen) × (now ≡ was ++ more) × AreOpenedOn (first ∷ []) more
+    → (more : List BookSeen) × (now ≡ was ++ more) × AreOpenedOn all more
+disks_first all first disks was now e (more, books, on) = (more, books, subst (λ (d : List DiskSeen). AreOpenedOn d more) (sym e) (on_more first disks more on))
 
 -- ---- what changes of the kept disks
 becomes_later : (starts : List Start) (first old new : Kept DiskSeen) (path : List ℕ) → kept_at new path ≡ kept_at old path → Becomes starts first old path → Becomes starts first new path

@@ -4,7 +4,7 @@ use Rattle.std.specs.declared.alloc.Global.{Global}
 use Rattle.key_state.specs.Entries.{AreEntries}
 use Rattle.key_state.specs.declared.entry.Entry.{Entry}
 use Rattle.key_state.specs.declared.seen.BookSeen.{BookSeen}
-use Rattle.vd_disk.specs.Disk.{DiskSeen, WhenTold}
+use Rattle.vd_disk.specs.Disk.{DiskSeen, Extends, WhenTold}
 use Rattle.vd_yard.specs.Kept.{Kept, kept_at}
 use Rattle.vd_yard.specs.Out.{AtDisk, Out, one_more}
 use Rattle.vd_yard.specs.Yard.{YardSeen}
@@ -60,6 +60,20 @@ abbrev pub AreReady : List StorePlan → List DiskSeen → List Recovered → Li
 AreReady [] [] [] [] = ⊤
 AreReady (store ∷ stores) (disk ∷ disks) (found ∷ more) (entries ∷ settled) = CanReopen store disk found.live entries × AreReady stores disks more settled
 AreReady stores disks found settled = ⊥
+
+-- A book was opened on this very disk, whether the yard tells what it keeps or not: as its opening began, it had the moments of this one,
+-- told the same sectors and had counted as many faults; and as it ended, moments had only come behind those.
+pub record IsOpenedOn (disk : DiskSeen) (b : BookSeen) : Type 0 where
+  pub its_moments : b.origin.began ≡ disk.moments
+  pub its_sectors : b.origin.told ≡ disk.told
+  pub its_faults : b.origin.faults ≡ disk.faults
+  pub grown : Extends disk.moments b.origin.opened
+
+-- Each of these books was opened on its own of these disks, the first on the first one, in order; behind the books there may be more disks.
+abbrev pub AreOpenedOn : List DiskSeen → List BookSeen → Type 0
+AreOpenedOn disks [] = ⊤
+AreOpenedOn [] (b ∷ books) = ⊥
+AreOpenedOn (disk ∷ disks) (b ∷ books) = IsOpenedOn disk b × AreOpenedOn disks books
 
 -- The epoch of an opening is one that a journal may have; and each of these is.
 abbrev pub IsLow : Start → Type 0

@@ -1,5 +1,6 @@
 // Opening the recovered journals of a plan's stores in their next epoch.
-ghost use Rattle.std.specs.Prelude.{◌≡◌, ◌<◌, ◌≤◌, ◌∷◌, ℕ, List, [], IfErr, IfOk, OnErr, OnOk, IsErrOf, IsTrue, Some, length, map, take};
+ghost use Rattle.std.specs.Prelude.{◌≡◌, ◌<◌, ◌≤◌, ◌∷◌, ◌++◌, ℕ, List, [], IfErr, IfOk, OnErr, OnOk, IsErrOf, IsTrue, Some, length, map, take};
+ghost use Rattle.key_state.specs.declared.seen.BookSeen.{BookSeen};
 ghost use Rattle.vd_yard.specs.Kept.{kept_at};
 ghost use Rattle.vd_yard.specs.Out.{AtDisk, Out, one_more, out_at};
 ghost use Rattle.run_report.specs.Lines.{opened_text};
@@ -11,7 +12,7 @@ ghost use Rattle.plan_journals.specs.Closing.{AreJournalsApart};
 ghost use Rattle.plan_journals.specs.Growth.{ChangesOnlyJournals, DiskRose, LeavesRest};
 ghost use Rattle.plan_journals.specs.Open.{IsOpenedNow, JournalsAreOut};
 ghost use Rattle.plan_reopened.specs.Kept.{AreStillKept};
-ghost use Rattle.plan_reopened.specs.Reopening.{AllReopened, AreReady, CanReopen, IsLow, OneReopened, ReopeningEnds, ReopeningEndsAt, StandReopened, items_of, next_start, next_starts, refusal_line, refusal_status};
+ghost use Rattle.plan_reopened.specs.Reopening.{AllReopened, AreOpenedOn, AreReady, CanReopen, IsLow, IsOpenedOn, OneReopened, ReopeningEnds, ReopeningEndsAt, StandReopened, items_of, next_start, next_starts, refusal_line, refusal_status};
 
 use crate::kept::give_back;
 use journal_core::{JournalBook, OpenFault, OpenRefused};
@@ -53,6 +54,8 @@ pub fn reopen_journal<Y: Yard>(
     ensures same { OnOk result (Y.seen yard.new ≡ Y.seen yard.old) }
     ensures back { OnErr result ((Y.seen yard.old).out ≡ one_more (Y.seen yard.new).out AtDisk store.now.journal) }
     ensures opened { IfOk result (λ book. IsOpenedNow (Y.seen yard.old) (next_start store.now live.now entries.items) (seen_of book)) }
+    // over any yard, whether it keeps disks or not
+    ensures its_disk { IfOk result (λ book. IsOpenedOn (Y.Disk.seen disk) (seen_of book)) }
     ensures grows { ChangesOnlyJournals (next_start store.now live.now entries.items ∷ []) (Y.seen yard.old).disks (Y.seen yard.new).disks }
     ensures others { (path : List ℕ) → (path ≡ store.now.journal → ⊥) → kept_at (Y.seen yard.new).disks path ≡ kept_at (Y.seen yard.old).disks path }
     // exactly in the last epoch
@@ -145,6 +148,8 @@ fn reopen_one<Y: Yard, S: Sink>(
         (printing printer.old.failed (S.taken out.old) (S.faults out.old)) (printing printer.new.failed (S.taken out.new) (S.faults out.new))) }
     ensures stops { IfErr result (λ status. ReopeningEndsAt (Y.seen yard.old) (Y.seen yard.new) store.now (next_start store.now live.now entries.items) (map seen_of books.old.items) (map seen_of books.new.items)
         (printing printer.old.failed (S.taken out.old) (S.faults out.old)) (printing printer.new.failed (S.taken out.new) (S.faults out.new)) status) }
+    ensures its_disk { OnOk result ((b : BookSeen) × (map seen_of books.new.items ≡ map seen_of books.old.items ++ b ∷ []) × IsOpenedOn (Y.Disk.seen disk) b) }
+    ensures at_most_its_disk { OnErr result ((more : List BookSeen) × (map seen_of books.new.items ≡ map seen_of books.old.items ++ more) × AreOpenedOn (Y.Disk.seen disk ∷ []) more) }
     ensures grows { ChangesOnlyJournals (next_start store.now live.now entries.items ∷ []) (Y.seen yard.old).disks (Y.seen yard.new).disks }
     ensures disk_quiet { (IsErrOf result Status.Journal → ⊥) → (IsErrOf result Status.NoMemory → ⊥) → (path : List ℕ) → kept_at (Y.seen yard.new).disks path ≡ kept_at (Y.seen yard.old).disks path }
 {
@@ -190,7 +195,8 @@ pub fn reopen_journals<Y: Yard, S: Sink>(
         (printing printer.old.failed (S.taken out.old) (S.faults out.old)) (printing printer.new.failed (S.taken out.new) (S.faults out.new))) }
     ensures stops { IfErr result (λ status. ReopeningEnds (Y.seen yard.old) (Y.seen yard.new) stores.now (next_starts stores.now found.now (map items_of settled.items)) (map seen_of books.old.items) (map seen_of books.new.items)
         (printing printer.old.failed (S.taken out.old) (S.faults out.old)) (printing printer.new.failed (S.taken out.new) (S.faults out.new)) status) }
-    // on every way out
+    // on every way out: over any yard, whether it keeps disks or not, what came behind the books was opened on the disks that came in
+    ensures their_disks { (more : List BookSeen) × (map seen_of books.new.items ≡ map seen_of books.old.items ++ more) × AreOpenedOn (map Y.Disk.seen disks.items) more }
     ensures stands { length books.old.items ≡ 0 → StandReopened (Y.seen yard.old) (Y.seen yard.new) stores.now (next_starts stores.now found.now (map items_of settled.items)) (length books.new.items) (map seen_of books.new.items) }
     ensures grows { ChangesOnlyJournals (next_starts stores.now found.now (map items_of settled.items)) (Y.seen yard.old).disks (Y.seen yard.new).disks }
     ensures disk_quiet { (IsErrOf result Status.Journal → ⊥) → (IsErrOf result Status.NoMemory → ⊥) → (path : List ℕ) → kept_at (Y.seen yard.new).disks path ≡ kept_at (Y.seen yard.old).disks path }

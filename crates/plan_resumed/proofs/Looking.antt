@@ -299,27 +299,27 @@ module _ {P B : Type 0} (pass_seen : P → PassSeen) (book_seen : B → BookSeen
 
   -- verification stops at a store
   pub resumed_stopped : (found : List Recovered) (recovered : YardSeen) (said : Printing) → HaveRecovered plan before found recovered said → (verified : YardSeen) → (rest : List ℕ) × Says said after.printing rest × StoresEnd recovered verified plan.stores found rest result → IsTrue (is_stop result)
-      → StoresStay plan.stores recovered.contents verified.contents → LeavesRest verified after.yard → KeepsEach before.yard.disks after.yard.disks → after.clock ≡ before.clock → Does
-  resumed_stopped found recovered said have verified (rest, says, ends) stop contents leaves disks clock = record {
+      → StoresStay plan.stores recovered.contents verified.contents → Stays recovered verified → LeavesRest verified after.yard → KeepsEach before.yard.disks after.yard.disks → after.clock ≡ before.clock → Does
+  resumed_stopped found recovered said have verified (rest, says, ends) stop contents same leaves disks clock = record {
     text = journals_text plan.stores found ++ rest;
     starts = [];
-    does = not_verified found recovered said have verified rest ends stop contents leaves disks clock refl refl;
+    does = not_verified found recovered said have verified rest ends stop contents same leaves disks clock refl refl;
     says = says_then before.printing said after.printing (journals_text plan.stores found) rest have.says says;
     grows = inl (stay_at before.yard.disks after.yard.disks disks);
     whole = λ well told. absurd (halts_badly result (stop_halts result stop) well);
   }
 
   -- the journals are opened, and what follows followed
-  pub resumed_on : (found : List Recovered) (recovered : YardSeen) (said : Printing) → HaveRecovered plan before found recovered said → (seen : List (List Look)) (left : List StoreSeen) (verified : YardSeen) (told : Printing) → HaveVerified plan found seen left recovered said verified told → (first rest : Status)
-      → first ≡ looks_status (all_looks seen) → result ≡ worse first rest → WentOn pass_seen book_seen plan (next_starts plan.stores found (map settled_of left)) left (stage [] verified before.clock 0 told) after rest → Does
-  resumed_on found recovered said have seen left verified told looked first rest first_is is went =
+  pub resumed_on : (found : List Recovered) (recovered : YardSeen) (said : Printing) → (have : HaveRecovered plan before found recovered said) → said.failed ≡ false → (seen : List (List Look)) (left : List StoreSeen) (verified : YardSeen) (told : Printing) → HaveVerified plan found seen left recovered said verified told → (first rest : Status)
+      → first ≡ looks_status (all_looks seen) → result ≡ worse first rest → WentOn pass_seen book_seen plan have.disks (next_starts plan.stores found (map settled_of left)) left (stage [] verified before.clock 0 told) after rest → Does
+  resumed_on found recovered said have unfailed seen left verified told looked first rest first_is is went =
       let on = looks_on (all_looks seen) first first_is in
       let disks : verified.disks ≡ before.yard.disks = looked.disks ∙ have.same in
       let tells = looked.stays.tells ∙ have.leaves.tells in
       record {
         text = journals_text plan.stores found ++ (stores_text plan.stores found seen ++ went.text);
         starts = next_starts plan.stores found (map settled_of left);
-        does = resumed found recovered said have seen left verified told looked refl went.text rest went.does refl (is ∙ ap (λ (s : Status). worse s rest) first_is);
+        does = resumed found recovered said have unfailed seen left verified told looked refl went.text rest went.does refl (is ∙ ap (λ (s : Status). worse s rest) first_is);
         says = says_then before.printing said after.printing (journals_text plan.stores found) (stores_text plan.stores found seen ++ went.text) have.says
             (says_then said told after.printing (stores_text plan.stores found seen) went.text looked.says went.says);
         grows = inr (subst (λ (k : Kept DiskSeen). ChangesOnlyJournals (next_starts plan.stores found (map settled_of left)) k after.yard.disks) disks went.grows);

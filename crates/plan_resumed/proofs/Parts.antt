@@ -23,7 +23,8 @@ use Rattle.plan_journals.specs.Closing.{AllEnded, AreJournalsApart, IsClosingSta
 use Rattle.plan_journals.specs.Growth.{ChangesOnlyJournals, LeavesRest, SomeRose, stays}
 use Rattle.plan_journals.specs.Open.{AllFollow, AreFrom, Held, Start, held_of, seen_held}
 use Rattle.plan_journals.proofs.Books.{paths_apart}
-use Rattle.plan_reopened.specs.Reopening.{AllReopened, ReopeningEnds, starts_text}
+use Rattle.plan_reopened.specs.Reopening.{AllReopened, AreOpenedOn, ReopeningEnds, starts_text}
+use Rattle.plan_hands.specs.Stores.{AreStores}
 use Rattle.plan_runs.specs.Stages.{Stage, stage}
 use Rattle.plan_runs.proofs.Faults.{never_falls}
 use Rattle.plan_runs.proofs.Runs.{runs_counts}
@@ -45,6 +46,10 @@ told_before a b same told = subst (λ (t : Tells). IsTrue t.keeps_disks) same to
 pub held_books : {D : Type 0} {G : Ghosts D} (books : List (JournalBook D G)) → map seen_held (map held_of books) ≡ map seen_of books
 held_books [] = refl
 held_books (book ∷ books) = ap (λ (l : List BookSeen). seen_of book ∷ l) (held_books books)
+
+-- Where there was no book before, all that are there were opened on these disks.
+pub all_opened_on : (disks : List DiskSeen) (was books : List BookSeen) → was ≡ [] → (more : List BookSeen) × (books ≡ was ++ more) × AreOpenedOn disks more → AreOpenedOn disks books
+all_opened_on disks was books none (more, is, on) = subst (AreOpenedOn disks) (sym (is ∙ ap (λ (h : List BookSeen). h ++ more) none)) on
 
 -- Stores of a valid plan have journals of their own.
 pub plan_apart : (plan : Plan) (stores : List StorePlan) → IsPlan plan → stores ≡ plan.stores → AreJournalsApart stores
@@ -128,9 +133,9 @@ module _ {P B : Type 0} (pass_seen : P → PassSeen) (book_seen : B → BookSeen
       let last : arm_faults after.yard.counts path ≡ arm_faults closed.last.yard.counts path = ap (λ (k : Counts). arm_faults k path) (closed.rest.counts ∙ closed.passes.counts) in
       omega (arith, never_falls arms.0 before.yard.counts path, ap (λ (k : Counts). arm_faults k path) arms.1, last)
 
-  module _ (starts : List Start) (left : List StoreSeen) (before after : Stage) (result : Status) where
+  module _ (disks : List DiskSeen) (starts : List Start) (left : List StoreSeen) (before after : Stage) (result : Status) where
     abbrev Went : Type 0
-    Went = WentOn pass_seen book_seen plan starts left before after result
+    Went = WentOn pass_seen book_seen plan disks starts left before after result
 
     -- memory ran out before the first opening
     pub went_not : GivenBack plan left before after → after.clock ≡ before.clock → result ≡ status.NoMemory → Went
@@ -147,13 +152,13 @@ module _ {P B : Type 0} (pass_seen : P → PassSeen) (book_seen : B → BookSeen
         }
 
     -- an opening stopped
-    pub went_stopped : (books : List BookSeen) (opened : YardSeen) (said : Printing) (why : Status) → ReopeningEnds before.yard opened plan.stores starts [] books before.printing said why → LeavesRest before.yard opened → opened.faults ≡ before.yard.faults → (unused : ClosedUnused plan left books opened said after) → after.clock ≡ before.clock
+    pub went_stopped : (books : List BookSeen) (opened : YardSeen) (said : Printing) (why : Status) → ReopeningEnds before.yard opened plan.stores starts [] books before.printing said why → AreOpenedOn disks books → LeavesRest before.yard opened → opened.faults ≡ before.yard.faults → (unused : ClosedUnused plan left books opened said after) → after.clock ≡ before.clock
         → result ≡ after_refusal why unused.closing → refuses result ≡ true → ChangesOnlyJournals starts before.yard.disks after.yard.disks → (result ≡ status.Journal → IsTrue before.yard.tells.keeps_disks → SomeRose plan.stores before.yard.disks after.yard.disks) → Went
-    went_stopped books opened said why stops leaves faults unused clock is has grows rose =
+    went_stopped books opened said why stops on leaves faults unused clock is has grows rose =
         let lines = starts_text (take stops.place starts) ++ stops.text in
         record {
           text = lines ++ ends_text plan.stores unused.ended.ends;
-          does = stopped books opened said why stops leaves faults unused clock refl is;
+          does = stopped books opened said why stops on leaves faults unused clock refl is;
           says = says_then before.printing said after.printing lines (ends_text plan.stores unused.ended.ends) stops.said unused.ended.said;
           leaves = unused_leaves plan left books before.yard opened said after result leaves faults unused has;
           grows = grows;
@@ -162,12 +167,12 @@ module _ {P B : Type 0} (pass_seen : P → PassSeen) (book_seen : B → BookSeen
         }
 
     -- memory ran out before the first run
-    pub went_unseated : (books : List BookSeen) (said : Printing) → AllReopened before.yard before.yard starts [] books before.printing said → (unused : ClosedUnused plan left books before.yard said after) → after.clock ≡ before.clock → result ≡ status.NoMemory → ChangesOnlyJournals starts before.yard.disks after.yard.disks → Went
-    went_unseated books said opens unused clock is grows =
+    pub went_unseated : (books : List BookSeen) (said : Printing) → AllReopened before.yard before.yard starts [] books before.printing said → AreOpenedOn disks books → (unused : ClosedUnused plan left books before.yard said after) → after.clock ≡ before.clock → result ≡ status.NoMemory → ChangesOnlyJournals starts before.yard.disks after.yard.disks → Went
+    went_unseated books said opens on unused clock is grows =
         let has : refuses result ≡ true = ap refuses is in
         record {
           text = starts_text starts ++ ends_text plan.stores unused.ended.ends;
-          does = unseated books said opens unused clock refl is;
+          does = unseated books said opens on unused clock refl is;
           says = says_then before.printing said after.printing (starts_text starts) (ends_text plan.stores unused.ended.ends) opens.said unused.ended.said;
           leaves = unused_leaves plan left books before.yard before.yard said after result (rest_same before.yard) refl unused has;
           grows = grows;
@@ -176,15 +181,15 @@ module _ {P B : Type 0} (pass_seen : P → PassSeen) (book_seen : B → BookSeen
         }
 
     -- the runs were made
-    pub went_ran : (books : List BookSeen) (said : Printing) (hands : List HandSeen) → IsPlan plan → AllReopened before.yard before.yard starts [] books before.printing said → hands ≡ with_passes left books → length left ≡ length books → length books ≡ length plan.stores
+    pub went_ran : (books : List BookSeen) (said : Printing) (hands : List HandSeen) → IsPlan plan → AllReopened before.yard before.yard starts [] books before.printing said → AreOpenedOn disks books → AreStores plan (with_passes left books) → hands ≡ with_passes left books → length left ≡ length books → length books ≡ length plan.stores
         → (rest : List ℕ) × RunsClosed pass_seen book_seen plan (stage hands before.yard before.clock 0 said) after rest result → LeavesYard before.yard after.yard result → ChangesOnlyJournals starts before.yard.disks after.yard.disks
         → (IsTrue before.yard.tells.keeps_disks → AreFrom before.yard.disks plan.stores starts (books_of hands)) → (result ≡ status.Journal → IsTrue before.yard.tells.keeps_disks → SomeRose plan.stores before.yard.disks after.yard.disks) → Went
-    went_ran books said hands valid opens its as_many all (rest, closed) leaves grows from rose =
+    went_ran books said hands valid opens on seated its as_many all (rest, closed) leaves grows from rose =
         let same : books_of hands ≡ books = ap books_of its ∙ seated_books 0 left books as_many in
         let many = as_many_follow (books_of hands) (books_of closed.last.hands) closed.follow in
         record {
           text = starts_text starts ++ rest;
-          does = went_on books said opens rest (subst (λ (l : List HandSeen). RunsClosed pass_seen book_seen plan (stage l before.yard before.clock 0 said) after rest result) its closed) refl;
+          does = went_on books said opens on seated rest (subst (λ (l : List HandSeen). RunsClosed pass_seen book_seen plan (stage l before.yard before.clock 0 said) after rest result) its closed) refl;
           says = says_then before.printing said after.printing (starts_text starts) rest opens.said closed.says;
           leaves = leaves;
           grows = grows;

@@ -50,7 +50,7 @@ where
     requires kept { IsTrue (Y.seen yard.old).tells.keeps_disks → AreStillKept (Y.seen yard.old).disks plan.now.stores (map Y.Disk.seen disks.items) }
     requires ready { AreReady plan.now.stores (map Y.Disk.seen disks.items) found.now (map settled_of (map (store_seen Y.Arm.Pass.seen) verified.items)) }
     requires out { (before : Out) × VerifiedAreOut plan.now before (Y.seen yard.old).out }
-    ensures went { WentOn Y.Arm.Pass.seen ⟦<JournalBook<Y::Disk> as Book>⟧.seen plan.now
+    ensures went { WentOn Y.Arm.Pass.seen ⟦<JournalBook<Y::Disk> as Book>⟧.seen plan.now (map Y.Disk.seen disks.items)
         (next_starts plan.now.stores found.now (map settled_of (map (store_seen Y.Arm.Pass.seen) verified.items))) (map (store_seen Y.Arm.Pass.seen) verified.items)
         (stage [] (Y.seen yard.old) (C.seen clock.old) 0 (printing printer.old.failed (S.taken out.old) (S.faults out.old)))
         (stage [] (Y.seen yard.new) (C.seen clock.new) 0 (printing printer.new.failed (S.taken out.new) (S.faults out.new))) result }

@@ -10,3 +10,4 @@ pub mod Clean
 pub mod Wholes
 pub mod Quiet
 pub mod Found
+pub mod Sure

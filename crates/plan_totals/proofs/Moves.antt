@@ -17,7 +17,7 @@ use Rattle.run_report.specs.declared.run_sums.Totals.{Totals}
 use Rattle.run_totals.proofs.Counts.{path_apart}
 use Rattle.plan_hands.specs.Stores.{book_of, passes_of, place_of}
 use Rattle.plan_totals.specs.Made.{MadeRun, sum_of, totals_in}
-use Rattle.plan_totals.specs.Sentences.{FileFits, OpenFit, RoseBy}
+use Rattle.plan_totals.specs.Sentences.{HandFits, RoseBy}
 use Rattle.plan_totals.proofs.Zips.{total_append}
 
 -- counts that rise modulo 2^64
@@ -79,10 +79,6 @@ unused_stays ((at, arm) ∷ arms) counts path each =
     stays_then counts (add_arm counts at arm.faults arm.good_reads arm.good_writes) (counts_with ((at, arm) ∷ arms) counts) path
     (unused_one counts at path arm.faults arm.good_reads arm.good_writes each.0.0 each.0.1 each.0.2 (bytes_eq at path) refl)
     (unused_stays arms (add_arm counts at arm.faults arm.good_reads arm.good_writes) path each.1)
-
--- What a hand's open passes tell fits, and what is kept of its store does while they aren't open.
-abbrev pub HandFits : Kept (List ℕ) → StorePlan → HandSeen → Type 0
-HandFits contents store hand = OpenFit store hand × (passes_of hand ≡ [] → FileFits contents store hand)
 
 -- What runs did to a store whose totals add up so: its book, its path's counts and its bad blocks rose by them. Some of it holds only
 -- where no book ended the work, and the last where the yard tells what it keeps.

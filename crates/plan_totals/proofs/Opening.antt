@@ -2,7 +2,7 @@
 use Rattle.std.proofs.Common.{◌≡◌, ◌∙◌, sym, ap, subst, arith, ℕ, ◌<◌, List, [], ◌∷◌, ◌++◌, length, Option, Some, slice_get}
 use Rattle.std.specs.List.{AllZip}
 use Rattle.std.proofs.lemmas.Option.{same_Some, slice_get_within}
-use Rattle.vd_yard.specs.Contents.{file_block}
+use Rattle.vd_yard.specs.Contents.{file_block, length_file_block}
 use Rattle.vd_yard.specs.Counts.{Counts}
 use Rattle.vd_yard.specs.Kept.{Kept, bytes_at}
 use Rattle.vd_yard.specs.Yard.{YardSeen}
@@ -13,13 +13,13 @@ use Rattle.plan_types.specs.declared.store.StorePlan.{StorePlan}
 use Rattle.key_state.specs.Entries.{entry_at}
 use Rattle.key_state.specs.declared.seen.BookSeen.{BookSeen}
 use Rattle.block_verdict.specs.Fits.{BytesFit}
-use Rattle.claim_table.specs.Passes.{ToldFits}
 use Rattle.slave_worker.specs.Hands.{HandSeen}
 use Rattle.slave_worker.specs.declared.hand.RunFault.{RunFault}
 use Rattle.plan_hands.specs.Openings.{HasOpened, Opened, StopsOpening, not_needed, opened, was_open}
 use Rattle.plan_hands.specs.Stores.{book_of, passes_of, place_of}
 use Rattle.plan_runs.proofs.Opened.{some_blocks}
-use Rattle.plan_totals.proofs.Moves.{HandFits, HandMoved, PathStays, hand_none, hand_same}
+use Rattle.plan_totals.specs.Sentences.{HandFits, TellsFit}
+use Rattle.plan_totals.proofs.Moves.{HandMoved, PathStays, hand_none, hand_same}
 use Rattle.plan_totals.proofs.Steps.{HandsMoved, KeepsSame, hands_same}
 use Rattle.plan_totals.proofs.Zips.{zip_append, zip_as}
 
@@ -32,7 +32,8 @@ module _ (plan : Plan) (valid : IsPlan plan) (contents : Kept (List ℕ)) (keeps
         subst (λ (k : Kept (List ℕ)). BytesFit store.id block (entry_at (book_of x).now block) (file_block store.id.geometry.block_size block (bytes_at k store.path))) (sym keeps_same.same) (fit.1 closed block below) in
         let in_book : BytesFit store.id block (entry_at (book_of y).now block) (file_block store.id.geometry.block_size block (bytes_at yard.contents store.path)) =
         subst (λ (b : BookSeen). BytesFit store.id block (entry_at b.now block) (file_block store.id.geometry.block_size block (bytes_at yard.contents store.path))) (sym has.book) in_yard in
-        subst (λ (o : Option (List ℕ)). ToldFits store.id block (entry_at (book_of y).now block) o) (sym (has.told (keeps_same.tells tells) block pass is)) in_book,
+        let whole : length (file_block store.id.geometry.block_size block (bytes_at yard.contents store.path)) ≡ store.id.geometry.block_size = length_file_block store.id.geometry.block_size block (bytes_at yard.contents store.path) in
+        subst (λ (o : Option (List ℕ)). TellsFit store.id block (entry_at (book_of y).now block) o) (sym (has.told (keeps_same.tells tells) block pass is)) (whole, in_book),
     λ none. absurd (omega (arith, has.blocks.as_many, some_blocks plan valid (place_of x) store at, ap length none)),
   )
 

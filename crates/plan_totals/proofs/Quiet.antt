@@ -12,8 +12,7 @@ use Rattle.slave_worker.specs.Hands.{HandSeen}
 use Rattle.run_totals.proofs.Lists.{get_of_map}
 use Rattle.plan_hands.specs.Stores.{with_books}
 use Rattle.plan_runs.specs.Quiet.{unwritten}
-use Rattle.plan_totals.specs.Sentences.{UnwrittenFit, UnwrittenPlansFit}
-use Rattle.plan_totals.proofs.Moves.{HandFits}
+use Rattle.plan_totals.specs.Sentences.{HandFits, UnwrittenFit, UnwrittenPlansFit}
 
 zip_second : {A B : Type 0} (xs : List A) (ys : List B) (i : ℕ) (both : A × B) → slice_get (zip xs ys) i ≡ Some both → slice_get ys i ≡ Some both.1
 zip_second [] ys i both at = absurd (none-some both at)

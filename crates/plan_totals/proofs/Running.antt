@@ -1,8 +1,9 @@
 -- What one run did to a plan's stage.
-use Rattle.std.proofs.Common.{◌≡◌, ◌∙◌, refl, sym, ap, subst, arith, ℕ, ◌+◌, ◌-◌, ◌%◌, ◌^◌, ◌≤◌, ◌==◌, ◌||◌, min, cond, Bool, true, false, List, [], ◌∷◌, length, map, Some, slice_get}
+use Rattle.std.proofs.Common.{◌≡◌, ◌∙◌, refl, sym, ap, subst, arith, ℕ, ◌+◌, ◌-◌, ◌%◌, ◌^◌, ◌≤◌, ◌==◌, ◌||◌, min, cond, Bool, true, false, List, [], ◌∷◌, length, map, Option, Some, None, slice_get}
 use Rattle.std.specs.List.{AllZip, filter, list_any, zip}
 use Rattle.std.proofs.lemmas.Bool.{eq-eqb}
 use Rattle.std.proofs.lemmas.Option.{same_Some}
+use Rattle.vd_base.specs.declared.geometry.StoreId.{StoreId}
 use Rattle.vd_arm.specs.Arm.{PassSeen}
 use Rattle.vd_yard.specs.Counts.{Counts, arm_faults, good_reads, good_writes}
 use Rattle.vd_yard.specs.Kept.{Kept}
@@ -11,7 +12,10 @@ use Rattle.plan_types.specs.declared.plan.Plan.{Plan}
 use Rattle.plan_types.specs.declared.run.RunPlan.{RunPlan}
 use Rattle.plan_types.specs.declared.run.WorkerPlan.{WorkerPlan}
 use Rattle.plan_types.specs.declared.store.StorePlan.{StorePlan}
+use Rattle.key_state.specs.Entries.{entry_at}
+use Rattle.key_state.specs.declared.entry.Entry.{Entry}
 use Rattle.key_state.specs.declared.seen.BookSeen.{BookSeen}
+use Rattle.claim_table.specs.Passes.{ToldFits}
 use Rattle.worker_tally.specs.Tallies.{Tallied}
 use Rattle.slave_worker.specs.Hands.{AreHands, HandSeen, IsHandOf, IsRunOf, OfStore, hand_seen, works_in}
 use Rattle.slave_worker.specs.declared.hand.RunAnswer.{RunAnswer}
@@ -20,10 +24,10 @@ use Rattle.master_run.specs.Crews.{Beginning}
 use Rattle.run_report.specs.Runs.{is_of, totals_of}
 use Rattle.run_report.specs.declared.run_sums.Group.TheVariants as group
 use Rattle.run_report.specs.declared.run_sums.Totals.{Totals}
-use Rattle.run_totals.specs.Sentences.{CorruptAreBad, ErrorsAreFindings, FaultsAreArmFaults, FittingStaysSo, OneForEach, OtherPathsStay, PassesComeBack, ReadsAreGoodReads, WritesAreEnds, WritesAreGoodWrites}
+use Rattle.run_totals.specs.Sentences.{CorruptAreBad, ErrorsAreFindings, FaultsAreArmFaults, FittingStaysSo, OneForEach, OtherPathsStay, PassesComeBack, ReadsAreGoodReads, SureArmsDontFail, WritesAreEnds, WritesAreGoodWrites}
 use Rattle.run_totals.specs.Whole.{NoneByBook, WholeRun, totals_of_store}
 use Rattle.run_totals.specs.Whole.{StoreOf as RunStore}
-use Rattle.run_totals.proofs.Lists.{all_at, each_at, each_of_all, get_map}
+use Rattle.run_totals.proofs.Lists.{all_at, each_at, each_of_all, get_map, get_of_map}
 use Rattle.run_totals.proofs.Stores.{one_path}
 use Rattle.plan_hands.specs.Stores.{AreStores, of_run, place_of}
 use Rattle.plan_runs.specs.Books.{books_status, met_end}
@@ -34,6 +38,7 @@ use Rattle.plan_runs.proofs.Opened.{are_open, some_blocks}
 use Rattle.plan_runs.proofs.Parted.{are_hands}
 use Rattle.plan_runs.proofs.Returned.{all_back, joined_back, stores_back}
 use Rattle.plan_totals.specs.Made.{MadeRun, made_run, sum_of}
+use Rattle.plan_totals.specs.Sentences.{OpenFit, TellsFit}
 use Rattle.plan_totals.proofs.Books.{last_worse, none_by_book, unmet, well_at}
 use Rattle.plan_totals.proofs.Moves.{AreNone, HandMoved, Moved, PathStays, moved_none, rose_as, rose_of, rose_same, stays_same, stays_then}
 use Rattle.plan_totals.proofs.Opening.{opened_all}
@@ -52,6 +57,17 @@ pub record RunLaws {P B : Type 0} (pass_seen : P → PassSeen) (book_seen : B �
   pub others : OtherPathsStay pass_seen book_seen
   pub errors : ErrorsAreFindings pass_seen book_seen
   pub one_each : OneForEach pass_seen book_seen
+  pub sure : SureArmsDontFail pass_seen book_seen
+  pub sizes : (pass : P) (bytes : List ℕ) → (pass_seen pass).told ≡ Some bytes → length bytes ≡ (pass_seen pass).size
+
+-- What tells bytes of a whole block that fit, tells such that fit, and the other way round where it tells no others.
+told_fits : (store : StoreId) (block : ℕ) (entry : Entry) (told : Option (List ℕ)) → TellsFit store block entry told → ToldFits store block entry told
+told_fits store block entry None fits = absurd fits
+told_fits store block entry (Some bytes) fits = fits.1
+
+tells_fit : (store : StoreId) (block : ℕ) (entry : Entry) (told : Option (List ℕ)) → ((bytes : List ℕ) → told ≡ Some bytes → length bytes ≡ store.geometry.block_size) → ToldFits store block entry told → TellsFit store block entry told
+tells_fit store block entry None long fits = absurd fits
+tells_fit store block entry (Some bytes) long fits = (long bytes refl, fits)
 
 -- A store without a worker has no totals.
 none_here : (place : ℕ) (workers : List WorkerPlan) (tallies : List Tallied) → list_any (λ (worker : WorkerPlan). worker.store == place) workers ≡ false → filter (λ (one : WorkerPlan × Tallied). is_of (group.Store place) one.0) (zip workers tallies) ≡ []
@@ -100,13 +116,13 @@ module _ {P B : Type 0} (pass_seen : P → PassSeen) (book_seen : B → BookSeen
     abbrev one : MadeRun
     one = made_run pass_seen book_seen run answer
 
-    its_open : AreOpen plan run m.ready.hands
+    pub its_open : AreOpen plan run m.ready.hands
     its_open = are_open plan valid run before.yard before.hands m.ready.hands stores m.is_ready.opened
 
-    its_hands : AreHands pass_seen book_seen plan run m.hands
+    pub its_hands : AreHands pass_seen book_seen plan run m.hands
     its_hands = are_hands pass_seen book_seen plan run m.hands m.ready.hands its_open m.its
 
-    abbrev whole : WholeRun pass_seen book_seen
+    abbrev pub whole : WholeRun pass_seen book_seen
     whole = record {
       plan = plan;
       run = run;
@@ -154,9 +170,14 @@ module _ {P B : Type 0} (pass_seen : P → PassSeen) (book_seen : B → BookSeen
           written = λ is. rose_of totals.writes (totals.writes + 0) (good_writes old path) (good_writes new path) (omega arith) (rose_as totals.writes (good_writes old path) (good_writes new path) (laws.good_writes whole its (by_none its is)));
           spoilt = λ is. omega (arith, laws.corrupt whole its (by_none its is));
           fitted = λ tells fit.
-              let fits = laws.fits whole its fit.0 in
+              let told = λ (block : ℕ) (pass : PassSeen) (at : slice_get (map pass_seen its.hand.passes.items) block ≡ Some pass). told_fits its.store.id block (entry_at (book_seen its.hand.book).now block) pass.told (fit.0 block pass at) in
+              let fits = laws.fits whole its told in
               let passes = laws.passes whole its in
-              ((fits.0, λ none. absurd (omega (arith, ap length none, passes.1.many, some_blocks plan valid its.hand.store its.store its.its_store))), omega (arith, fits.1));
+              let tell : OpenFit its.store (seen its.back) = λ block pass at.
+              tells_fit its.store.id block (entry_at (book_seen its.back.book).now block) pass.told (λ bytes is.
+              let own = get_of_map pass_seen its.back.passes.items block pass at in
+              laws.sizes own.0 bytes (ap (λ (p : PassSeen). p.told) own.2 ∙ is) ∙ ap (λ (p : PassSeen). p.size) own.2 ∙ (passes.1.each block pass at).1) (fits.0 block pass at) in
+              ((tell, λ none. absurd (omega (arith, ap length none, passes.1.many, some_blocks plan valid its.hand.store its.store its.its_store))), omega (arith, fits.1));
         }
 
     worked : (i : ℕ) (hand back : StoreHand P B) → slice_get m.hands i ≡ Some hand → slice_get answer.hands.items i ≡ Some back → HandMoved plan contents keeps well (one ∷ []) m.ready.yard.counts after.yard.counts (seen hand) (seen back)

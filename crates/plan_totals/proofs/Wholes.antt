@@ -26,11 +26,13 @@ use Rattle.plan_runs.proofs.Chosen.{all_of_each}
 use Rattle.plan_runs.proofs.Parted.{as_many}
 use Rattle.plan_runs.proofs.Runs.{runs_counts}
 use Rattle.plan_totals.specs.Made.{MadeRun, PlanRuns, StoreOf, all_made, findings_of, made_of, sum_of, totals_in}
-use Rattle.plan_totals.specs.Sentences.{AllFit, CorruptAreBad, ErrorsAreFindings, FaultsAreArmFaults, FirstAreMade, FittingStaysSo, IsCounted, NoneIsCorrupt, NoneIsLeftOut, OneForEach, OtherPathsStay, ReadsAreGoodReads, RefusedIsTold, SourcesStay, StartBelowLimit, StoresStay, TextIsTheirs, UnwrittenFit, WritesAreEnds, WritesAreGoodWrites}
+use Rattle.plan_totals.specs.Sentences.{AllFit, ContentsStay, CorruptAreBad, ErrorsAreFindings, FaultsAreArmFaults, FindingsAreTold, FirstAreMade, FittingStaysSo, HandFits, IsCounted, NoneIsCorrupt, NoneIsLeftOut, OneForEach, OtherPathsStay, ReadsAreGoodReads, RefusedIsTold, SourcesStay, StartBelowLimit, StoresStay, SureArmsDontFail, TextIsTheirs, UnwrittenFit, WritesAreEnds, WritesAreGoodWrites}
 use Rattle.plan_totals.proofs.Clean.{clean_run}
 use Rattle.plan_totals.proofs.Moves.{HandMoved, Moved}
 use Rattle.plan_totals.proofs.Running.{RunLaws}
 use Rattle.plan_totals.proofs.Runs.{all_are_runs, all_steps, one_step}
+use Rattle.plan_totals.proofs.Found.{status_found}
+use Rattle.plan_totals.proofs.Sure.{AreCounted, NoFaults, all_sure, all_tells, all_told, not_device}
 use Rattle.plan_totals.proofs.Steps.{IsCountedOf, KeepsSame, Step}
 use Rattle.plan_totals.proofs.Texts.{at_most_one, corrupt_is, corrupt_tally, first_made, left_out, refused_is, some_corrupt, text_is, went_on}
 use Rattle.plan_totals.proofs.Zips.{range_at, zip_at}
@@ -77,6 +79,9 @@ module _ {P B : Type 0} (pass_seen : P → PassSeen) (book_seen : B → BookSeen
     pub stores_stay : StoresStay pass_seen book_seen
     stores_stay all = (step_of all).stores
 
+    pub contents_stay : ContentsStay pass_seen book_seen
+    contents_stay all = ((step_of all).yard.same, all_tells pass_seen book_seen laws all.plan all.valid all.plan.runs all.before all.last all.text all.result all.runs)
+
     pub others_stay : OtherPathsStay pass_seen book_seen
     others_stay all path apart =
         let stays = (step_of all).others path apart in
@@ -117,8 +122,8 @@ module _ {P B : Type 0} (pass_seen : P → PassSeen) (book_seen : B → BookSeen
 
     pub fitting_stays : FittingStaysSo pass_seen book_seen
     fitting_stays all its tells fit =
-        let fitted = (moved_of all its).fitted tells (fit its) in
-        (fitted.0.0, fitted.1)
+        let fitted = (moved_of all its).fitted tells fit in
+        (subst (λ (k : Kept (List ℕ)). HandFits k its.store its.back) (sym (contents_stay all).0) fitted.0, fitted.1)
 
     -- One tally and one end for each worker.
     pub one_for_each : OneForEach pass_seen book_seen
@@ -131,7 +136,8 @@ module _ {P B : Type 0} (pass_seen : P → PassSeen) (book_seen : B → BookSeen
         let store = found_at all.plan.stores place below in
         let hand = found_at all.before.hands place (omega (arith, below, as_many all.plan all.before.hands all.stores)) in
         let back = found_at all.last.hands place (omega (arith, below, as_many all.plan all.last.hands (step_of all).stores)) in
-        (fitting_stays all (record { place = place; store = store.0; hand = hand.0; back = back.0; its_store = store.1; went_in = hand.1; came_back = back.1 }) tells fit).1
+        let its : StoreOf pass_seen book_seen all = record { place = place; store = store.0; hand = hand.0; back = back.0; its_store = store.1; went_in = hand.1; came_back = back.1 } in
+        (fitting_stays all its tells (fit its)).1
 
     all_clean : (all : PlanRuns pass_seen book_seen) → IsTrue all.before.yard.tells.keeps_contents → AllFit pass_seen book_seen all → All (λ (one : MadeRun). All (λ (tally : Tallied). tally.numbers.corrupt ≡ 0) one.tallies) (made_of pass_seen book_seen all)
     all_clean all tells fit =
@@ -150,6 +156,19 @@ module _ {P B : Type 0} (pass_seen : P → PassSeen) (book_seen : B → BookSeen
               let none = list_any_none some_corrupt (made_of pass_seen book_seen all) (λ k d within. list_any_none corrupt_tally _ (λ j e inside. ap (nat_lt 0) (clean k d within j e inside))) in
               let so : true ≡ false = sym any ∙ none in cc,
         )
+
+    pub sure_dont_fail : SureArmsDontFail pass_seen book_seen
+    sure_dont_fail all sure =
+        let runs = made_of pass_seen book_seen all in
+        let none = all_sure pass_seen book_seen laws all.plan all.valid all.plan.runs (all_are_runs all.plan all.valid) all.before all.last all.text all.result all.runs all.stores sure in (
+          all_of_each NoFaults runs none,
+          λ device.
+              let found = status_found pass_seen book_seen all.plan all.plan.runs all.before all.last all.text all.result all.runs (ap is_last device) in
+              not_device runs none (sym found ∙ device),
+        )
+
+    pub findings_told : FindingsAreTold pass_seen book_seen
+    findings_told all = all_of_each AreCounted (made_of pass_seen book_seen all) (all_told pass_seen book_seen laws all.plan all.valid all.plan.runs (all_are_runs all.plan all.valid) all.before all.last all.text all.result all.runs all.stores)
 
     -- The errors before each run.
     below : (plan : Plan) (valid : IsPlan plan) (contents : Kept (List ℕ)) (runs : List RunPlan) → All (IsRunOf plan) runs → (before after : Stage) (text : List ℕ) (result : Status) (them : RunsMade pass_seen book_seen plan runs before after text result) → AreStores plan before.hands → KeepsSame plan contents ⊥ before.yard

@@ -1,5 +1,6 @@
 -- What all runs of a plan have to do with its text and errors, with its stores' books, and with the counts of their paths.
-use Rattle.std.specs.Prelude.{◌≡◌, ◌≢◌, ℕ, ◌+◌, ◌-◌, ◌%◌, ◌^◌, ◌<◌, ◌≤◌, min, false, IsTrue, List, [], All, ◌++◌, length, map, take, Some, slice_get}
+use Rattle.std.specs.Prelude.{◌≡◌, ◌≢◌, ℕ, ◌+◌, ◌-◌, ◌%◌, ◌^◌, ◌<◌, ◌≤◌, min, false, IsTrue, List, [], All, ◌++◌, length, map, take, Option, Some, None, slice_get}
+use Rattle.vd_base.specs.declared.geometry.StoreId.{StoreId}
 use Rattle.vd_arm.specs.Arm.{PassSeen}
 use Rattle.vd_yard.specs.Contents.{file_block}
 use Rattle.vd_yard.specs.Counts.{arm_faults, good_reads, good_writes, source_faults}
@@ -7,13 +8,14 @@ use Rattle.vd_yard.specs.Kept.{Kept, bytes_at}
 use Rattle.plan_types.specs.declared.store.StorePlan.{StorePlan}
 use Rattle.key_state.specs.Books.{Follows}
 use Rattle.key_state.specs.Entries.{entry_at}
+use Rattle.key_state.specs.declared.entry.Entry.{Entry}
 use Rattle.key_state.specs.declared.entry.Entry.TheVariants.{Settled}
 use Rattle.key_state.specs.declared.seen.BookSeen.{BookSeen}
 use Rattle.block_verdict.specs.Fits.{BytesFit}
-use Rattle.claim_table.specs.Passes.{ToldFits}
 use Rattle.claim_table.specs.Sums.{total}
 use Rattle.claim_table.specs.Views.{bad}
 use Rattle.slave_worker.specs.Hands.{HandSeen}
+use Rattle.run_totals.specs.Sentences.{ArmsAreSure, FindingsAreCounted}
 use Rattle.run_report.specs.Lines.{cannot_open_text}
 use Rattle.run_report.specs.declared.run_sums.Totals.{Totals}
 use Rattle.run_report.specs.declared.status.Status.TheVariants as status
@@ -33,15 +35,28 @@ pub record IsCounted (one : MadeRun) : Type 0 where
   pub tally_each : length one.tallies ≡ length one.run.workers
   pub end_each : length one.ends ≡ length one.run.workers
 
--- Bytes that a hand's open passes tell fit the entries of its book.
+-- These bytes are told, those of a whole block, and they fit the block's entry.
+abbrev pub TellsFit : StoreId → ℕ → Entry → Option (List ℕ) → Type 0
+TellsFit store block entry None = ⊥
+TellsFit store block entry (Some bytes) = (length bytes ≡ store.geometry.block_size) × BytesFit store block entry bytes
+
+-- A hand's open passes tell bytes that fit the entries of its book.
 abbrev pub OpenFit : StorePlan → HandSeen → Type 0
 OpenFit store hand = (block : ℕ) (pass : PassSeen) → slice_get (passes_of hand) block ≡ Some pass
-    → ToldFits store.id block (entry_at (book_of hand).now block) pass.told
+    → TellsFit store.id block (entry_at (book_of hand).now block) pass.told
 
--- The bytes that are kept of a store fit the entries of its book.
+-- The bytes that are kept of a store fit these entries of its blocks.
+abbrev pub DataFits : Kept (List ℕ) → StorePlan → List Entry → Type 0
+DataFits contents store entries = (block : ℕ) → block < store.id.geometry.blocks
+    → BytesFit store.id block (entry_at entries block) (file_block store.id.geometry.block_size block (bytes_at contents store.path))
+
+-- They fit the entries of its book.
 abbrev pub FileFits : Kept (List ℕ) → StorePlan → HandSeen → Type 0
-FileFits contents store hand = (block : ℕ) → block < store.id.geometry.blocks
-    → BytesFit store.id block (entry_at (book_of hand).now block) (file_block store.id.geometry.block_size block (bytes_at contents store.path))
+FileFits contents store hand = DataFits contents store (book_of hand).now
+
+-- What a hand's open passes tell fits the entries of its book, and while they aren't open what is kept of its store does.
+abbrev pub HandFits : Kept (List ℕ) → StorePlan → HandSeen → Type 0
+HandFits contents store hand = OpenFit store hand × (passes_of hand ≡ [] → FileFits contents store hand)
 
 -- Whatever a store's bytes are, they fit where each block counts as never written.
 abbrev pub UnwrittenFit : Type 0
@@ -73,6 +88,10 @@ module _ {P B : Type 0} (pass_seen : P → PassSeen) (book_seen : B → BookSeen
   RefusedIsTold = OfPlans (λ all. all.result ≡ status.Yard
       → (place : ℕ) × (store : StorePlan) × (slice_get all.plan.stores place ≡ Some store)
       × (all.text ≡ texts_of all.plan.stores (made_in_all all) ++ cannot_open_text store.path))
+
+  -- Each worker's findings are as many failed calls and corrupt blocks as its numbers say.
+  abbrev pub FindingsAreTold : Type 0
+  FindingsAreTold = OfPlans (λ all. All (λ (one : MadeRun). All FindingsAreCounted one.tallies) (made_in_all all))
 
   -- Where more runs may follow the status is what all tallies say together.
   abbrev pub StatusIsFound : Type 0
@@ -146,17 +165,25 @@ module _ {P B : Type 0} (pass_seen : P → PassSeen) (book_seen : B → BookSeen
 
   -- what fits at first: what each store's open passes tell, or what the yard keeps of it
   abbrev pub AllFit : PlanRuns pass_seen book_seen → Type 0
-  AllFit all = (its : StoreOf pass_seen book_seen all)
-      → OpenFit its.store its.hand × (passes_of its.hand ≡ [] → FileFits all.before.yard.contents its.store its.hand)
+  AllFit all = (its : StoreOf pass_seen book_seen all) → HandFits all.before.yard.contents its.store its.hand
 
   -- It does where no store has a journal and none of its blocks was ever written.
   abbrev pub UnwrittenPlansFit : Type 0
   UnwrittenPlansFit = (all : PlanRuns pass_seen book_seen) → all.before.hands ≡ with_books (map unwritten all.plan.stores) → AllFit all
 
-  -- Over a yard that tells what it keeps, what fitted still does once it is open, and no corrupt block is found.
+  -- Runs change nothing of what the yard keeps of the data, since their passes are out, nor what it tells.
+  abbrev pub ContentsStay : Type 0
+  ContentsStay = OfPlans (λ all. (all.last.yard.contents ≡ all.before.yard.contents) × (all.last.yard.tells ≡ all.before.yard.tells))
+
+  -- Over a yard that tells what it keeps, what fitted of a store still does, and no corrupt block of it is found.
   abbrev pub FittingStaysSo : Type 0
-  FittingStaysSo = OfStores (λ all its. IsTrue all.before.yard.tells.keeps_contents → AllFit all
-      → OpenFit its.store its.back × (sum_in_all (λ totals. totals.corrupt) all its ≡ 0))
+  FittingStaysSo = OfStores (λ all its. IsTrue all.before.yard.tells.keeps_contents → HandFits all.before.yard.contents its.store its.hand
+      → HandFits all.last.yard.contents its.store its.back × (sum_in_all (λ totals. totals.corrupt) all its ≡ 0))
+
+  -- Over sure arms no worker meets a failed call, and no status says so.
+  abbrev pub SureArmsDontFail : Type 0
+  SureArmsDontFail = OfPlans (λ all. ArmsAreSure all.before.yard all.plan.stores
+      → All (λ (one : MadeRun). All (λ tally. tally.numbers.faults ≡ 0) one.tallies) (made_in_all all) × (all.result ≢ status.Device))
 
   -- Then no worker found one, and no status says so.
   abbrev pub NoneIsCorrupt : Type 0

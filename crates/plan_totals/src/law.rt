@@ -1,5 +1,5 @@
 // What all runs of a plan add up to.
-ghost use Rattle.plan_totals.specs.Sentences.{CorruptAreBad, ErrorsAreFindings, FaultsAreArmFaults, FirstAreMade, FittingStaysSo, NoneIsCorrupt, NoneIsLeftOut, OneForEach, OtherPathsStay, ReadsAreGoodReads, RefusedIsTold, SourcesStay, StartBelowLimit, StatusIsFound, StoresStay, TextIsTheirs, UnwrittenFit, UnwrittenPlansFit, WritesAreEnds, WritesAreGoodWrites};
+ghost use Rattle.plan_totals.specs.Sentences.{ContentsStay, CorruptAreBad, ErrorsAreFindings, FaultsAreArmFaults, FindingsAreTold, FirstAreMade, FittingStaysSo, NoneIsCorrupt, NoneIsLeftOut, OneForEach, OtherPathsStay, ReadsAreGoodReads, RefusedIsTold, SourcesStay, StartBelowLimit, StatusIsFound, StoresStay, SureArmsDontFail, TextIsTheirs, UnwrittenFit, UnwrittenPlansFit, WritesAreEnds, WritesAreGoodWrites};
 
 use key_state::Book;
 use run_totals::run_adds_up;
@@ -14,6 +14,7 @@ pub fn runs_add_up<P: Pass, B: Book>()
     ensures status { StatusIsFound P.seen B.seen }
     ensures left_out { NoneIsLeftOut P.seen B.seen }
     ensures below { StartBelowLimit P.seen B.seen }
+    ensures findings { FindingsAreTold P.seen B.seen }
     ensures errors { ErrorsAreFindings P.seen B.seen }
     ensures stores { StoresStay P.seen B.seen }
     ensures writes { WritesAreEnds P.seen B.seen }
@@ -23,6 +24,8 @@ pub fn runs_add_up<P: Pass, B: Book>()
     ensures corrupt { CorruptAreBad P.seen B.seen }
     ensures others { OtherPathsStay P.seen B.seen }
     ensures sources { SourcesStay P.seen B.seen }
+    ensures contents { ContentsStay P.seen B.seen }
+    ensures sure { SureArmsDontFail P.seen B.seen }
     ensures fits { FittingStaysSo P.seen B.seen }
     ensures clean { NoneIsCorrupt P.seen B.seen }
     ensures unwritten { UnwrittenFit }

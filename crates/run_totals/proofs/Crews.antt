@@ -31,6 +31,7 @@ pub record IsLabor (plan : Plan) (run : RunPlan) (beginning : Beginning) (labor 
   pub made : Made
   pub sure : Bool
   pub did : DidWork plan run store.id beginning.start beginning.clock made sure labor
+  pub is_sure : sure ≡ beginning.tells.sure AtArm store.path
 
 module _ {P B : Type 0} (pass_seen : P → PassSeen) (book_seen : B → BookSeen) (plan : Plan) (run : RunPlan) (beginning : Beginning) where
   -- The labors of one store, which are those of all crews that are of it.
@@ -95,11 +96,11 @@ module _ {P B : Type 0} (pass_seen : P → PassSeen) (book_seen : B → BookSeen
         own = filter-append (of_store hand.store) labors (all_labors crews) ∙ ap (λ l. l ++ filter (of_store hand.store) (all_labors crews)) none ∙ rest.own;
       }
 
-  is_labor : (store : StorePlan) (hand : StoreHand P B) (made : Made) (sure : Bool) → slice_get plan.stores hand.store ≡ Some store → (labors : List Labor) → Each (λ labor. labor.worker.store ≡ hand.store) labors → Each (DidWork plan run store.id beginning.start beginning.clock made sure) labors → Each (IsLabor plan run beginning) labors
-  is_labor store hand made sure its [] theirs each = tt
-  is_labor store hand made sure its (labor ∷ labors) theirs each = (
-    record { store = store; its_store = ap (λ (n : ℕ). slice_get plan.stores n) theirs.0 ∙ its; made = made; sure = sure; did = each.0 },
-    is_labor store hand made sure its labors theirs.1 each.1,
+  is_labor : (store : StorePlan) (hand : StoreHand P B) (made : Made) (sure : Bool) → sure ≡ beginning.tells.sure AtArm store.path → slice_get plan.stores hand.store ≡ Some store → (labors : List Labor) → Each (λ labor. labor.worker.store ≡ hand.store) labors → Each (DidWork plan run store.id beginning.start beginning.clock made sure) labors → Each (IsLabor plan run beginning) labors
+  is_labor store hand made sure is its [] theirs each = tt
+  is_labor store hand made sure is its (labor ∷ labors) theirs each = (
+    record { store = store; its_store = ap (λ (n : ℕ). slice_get plan.stores n) theirs.0 ∙ its; made = made; sure = sure; did = each.0; is_sure = is },
+    is_labor store hand made sure is its labors theirs.1 each.1,
   )
 
   -- each labor is one of the run
@@ -114,7 +115,7 @@ module _ {P B : Type 0} (pass_seen : P → PassSeen) (book_seen : B → BookSeen
       let made : Made = made_with pass_seen book_seen ran.0.0.id (length labors) hand.passes.items hand.book in
       let sure : Bool = beginning.tells.sure AtArm ran.0.0.path in
       each_append (IsLabor plan run beginning) labors (all_labors crews)
-      (is_labor ran.0.0 hand made sure ran.0.1 labors (their_store ran.0.0 hand back labors its) (each_of_all (DidWork plan run ran.0.0.id beginning.start beginning.clock made sure) labors its.each))
+      (is_labor ran.0.0 hand made sure refl ran.0.1 labors (their_store ran.0.0 hand back labors its) (each_of_all (DidWork plan run ran.0.0.id beginning.start beginning.clock made sure) labors its.each))
       (all_are hands crews backs ran.1)
 
   -- a hand came back for each

@@ -28,7 +28,7 @@ use Rattle.master_run.specs.Crews.{Beginning, all_labors, arms_of, path_of}
 use Rattle.slave_worker.specs.Hands.{IsHandOf, OfStore, stores_in}
 use Rattle.master_run.specs.Labors.{DidWork, Labor}
 use Rattle.vd_yard.specs.Out.{AtArm}
-use Rattle.run_totals.specs.Sentences.{CorruptAreBad, EndsBy, EndsHaveCauses, ErrorsAreFindings, FaultsAreArmFaults, FindingsAreCounted, Fits, FittingStaysSo, OneForEach, OtherPathsStay, PassesComeBack, ReadsAreGoodReads, SourcesStay, StillClocksDontEnd, WritesAreEnds, WritesAreGoodWrites}
+use Rattle.run_totals.specs.Sentences.{CorruptAreBad, EndsBy, EndsHaveCauses, ErrorsAreFindings, FaultsAreArmFaults, FindingsAreCounted, Fits, FittingStaysSo, OneForEach, OtherPathsStay, PassesComeBack, ReadsAreGoodReads, SourcesStay, StillClocksDontEnd, SureArmsDontFail, WritesAreEnds, WritesAreGoodWrites}
 use Rattle.run_totals.specs.Whole.{NoneByBook, StoreOf, WholeRun, is_by_book, totals_of_store}
 use Rattle.run_totals.proofs.Counts.{IsCount, at_path, faults_elsewhere, faults_rise, faults_stay, reads_count, sources_stay, sum_rises, sum_stays, writes_count}
 use Rattle.run_totals.proofs.Crews.{CrewOf, IsLabor, all_are, as_many_back, crew_at, of_store, their_store}
@@ -36,7 +36,7 @@ use Rattle.run_totals.proofs.Lists.{all_at, all_from, each_at, each_both, each_f
 use Rattle.run_totals.proofs.Paths.{HasStore, any_kept, arms_apart, store_sum, total_ones}
 use Rattle.run_totals.proofs.Rising.{IsRising, range_rises}
 use Rattle.run_totals.proofs.Totals.{AreTotals, are_totals, pairs_of, total_held, total_mod}
-use Rattle.run_totals.proofs.Works.{AddUp, Laws, adds_up, ends_by, fits_none, not_by_time}
+use Rattle.run_totals.proofs.Works.{AddUp, Laws, adds_up, ends_by, fits_none, none_failed, not_by_time}
 
 module _ {P B : Type 0} (pass_seen : P → PassSeen) (book_seen : B → BookSeen) where
   abbrev beginning_of : WholeRun pass_seen book_seen → Beginning
@@ -251,6 +251,19 @@ errors_are pass_seen book_seen laws whole =
           let one = get_of_map (λ (labor : Labor). labor.tally) all i tally (ap (λ (l : List Tallied). slice_get l i) (sym whole.did.tallies) ∙ at) in
           subst FindingsAreCounted one.2 (each_at AddUp all i one.0 adds one.1).found),
     )
+
+pub sure_dont_fail : {P B : Type 0} (pass_seen : P → PassSeen) (book_seen : B → BookSeen) → Laws → SureArmsDontFail pass_seen book_seen
+sure_dont_fail pass_seen book_seen laws whole sure =
+    let all = all_labors whole.did.crews in
+    let adds = all_add_up pass_seen book_seen laws whole in
+    let each = each_is pass_seen book_seen whole in
+    all_from (λ (tally : Tallied). tally.numbers.faults ≡ 0) whole.answer.tallies.items (λ i tally at.
+    let one = get_of_map (λ (labor : Labor). labor.tally) all i tally (ap (λ (l : List Tallied). slice_get l i) (sym whole.did.tallies) ∙ at) in
+    let is = each_at (IsLabor whole.plan whole.run (beginning_of pass_seen book_seen whole)) all i one.0 each one.1 in
+    let its_sure : IsTrue is.sure = subst IsTrue (sym is.is_sure) (sure one.0.worker.store is.store is.its_store) in
+    let none = none_failed whole.plan whole.run is.store.id whole.did.start whole.clock_after is.made is.sure one.0 is.did its_sure in
+    let held : min one.0.tally.numbers.faults (2 ^ 64 - 1) ≤ one.0.arm.faults = (each_at AddUp all i one.0 adds one.1).faults in
+    subst (λ (t : Tallied). t.numbers.faults ≡ 0) one.2 (omega (arith, held, none)))
 
 pub one_for_each : {P B : Type 0} (pass_seen : P → PassSeen) (book_seen : B → BookSeen) → OneForEach pass_seen book_seen
 one_for_each pass_seen book_seen whole =

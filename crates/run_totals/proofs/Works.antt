@@ -147,6 +147,10 @@ module _ (plan : Plan) (run : RunPlan) (store : StoreId) (start : ℕ) (clock : 
       ap (λ (t : Tallied). t.numbers.corrupt) did.worked.3.tally
       ∙ corrupt_all rules store rules.intervals store.geometry.block_size did.worked.0 did.empty did.worked.1 (did.worked.5 fitted) ∙ none
 
+  -- a sure arm met no failed call
+  pub none_failed : IsTrue sure → labor.arm.faults ≡ 0
+  none_failed is = did.worked.3.arm.still is
+
   pub ends_by : {P B : Type 0} (pass_seen : P → PassSeen) (book_seen : B → BookSeen) (errors : ℕ) (book : BookSeen) → newest labor.answers ≤ errors → (labor.view.shut ≡ true → book.shut ≡ true) → EndsBy pass_seen book_seen plan run errors labor.tally book labor.end
   ends_by pass_seen book_seen errors book under shuts = ended pass_seen book_seen plan run (rules_of plan run labor.worker start) did.worked.0 labor.view (newest labor.answers) labor.clock labor.tally errors book labor.end did.worked.4 turns_are refl under shuts
 

@@ -2,6 +2,8 @@
 use Rattle.std.specs.Prelude.{◌≡◌, ℕ, ◌+◌, ◌-◌, ◌%◌, ◌^◌, ◌<◌, ◌≤◌, min, true, IsTrue, List, All, length, map, Some, slice_get}
 use Rattle.std.specs.List.{sum_by}
 use Rattle.vd_arm.specs.Arm.{PassSeen}
+use Rattle.vd_yard.specs.Out.{AtArm}
+use Rattle.vd_yard.specs.Yard.{YardSeen}
 use Rattle.vd_yard.specs.Counts.{arm_faults, good_reads, good_writes, source_faults}
 use Rattle.plan_types.specs.declared.plan.Plan.{Plan}
 use Rattle.plan_types.specs.declared.run.RunPlan.{RunPlan}
@@ -24,6 +26,10 @@ use Rattle.run_totals.specs.Whole.{NoneByBook, StoreOf, WholeRun, totals_of_stor
 pub record FindingsAreCounted (tally : Tallied) : Type 0 where
   pub faults : tally.numbers.faults ≡ total fault_in tally.findings
   pub corrupt : tally.numbers.corrupt ≡ total corrupt_block_in tally.findings
+
+-- A yard hands out sure arms alone at the paths of these stores.
+abbrev pub ArmsAreSure : YardSeen → List StorePlan → Type 0
+ArmsAreSure yard stores = (place : ℕ) (store : StorePlan) → slice_get stores place ≡ Some store → IsTrue (yard.tells.sure AtArm store.path)
 
 module _ {P B : Type 0} (pass_seen : P → PassSeen) (book_seen : B → BookSeen) where
   -- what holds of every run and each of its stores
@@ -94,6 +100,10 @@ module _ {P B : Type 0} (pass_seen : P → PassSeen) (book_seen : B → BookSeen
   ErrorsAreFindings = OfRuns (λ whole.
       (whole.answer.errors ≡ whole.errors_before + sum_by (λ tally. length tally.findings) whole.answer.tallies.items)
       × All FindingsAreCounted whole.answer.tallies.items)
+
+  -- Over sure arms no worker meets a failed call.
+  abbrev pub SureArmsDontFail : Type 0
+  SureArmsDontFail = OfRuns (λ whole. ArmsAreSure whole.yard_before whole.plan.stores → All (λ tally. tally.numbers.faults ≡ 0) whole.answer.tallies.items)
 
   -- There are a tally and an end for each worker, and each hand came back.
   abbrev pub OneForEach : Type 0

@@ -1,5 +1,5 @@
 // What a run's totals add up to.
-ghost use Rattle.run_totals.specs.Sentences.{CorruptAreBad, EndsHaveCauses, ErrorsAreFindings, FaultsAreArmFaults, FittingStaysSo, OneForEach, OtherPathsStay, PassesComeBack, ReadsAreGoodReads, SourcesStay, StillClocksDontEnd, WritesAreEnds, WritesAreGoodWrites};
+ghost use Rattle.run_totals.specs.Sentences.{CorruptAreBad, EndsHaveCauses, ErrorsAreFindings, FaultsAreArmFaults, FittingStaysSo, OneForEach, OtherPathsStay, PassesComeBack, ReadsAreGoodReads, SourcesStay, StillClocksDontEnd, SureArmsDontFail, WritesAreEnds, WritesAreGoodWrites};
 
 use key_state::Book;
 use slave_worker::turns_add_up;
@@ -17,6 +17,7 @@ pub fn run_adds_up<P: Pass, B: Book>()
     ensures others { OtherPathsStay P.seen B.seen }
     ensures sources { SourcesStay P.seen B.seen }
     ensures errors { ErrorsAreFindings P.seen B.seen }
+    ensures sure { SureArmsDontFail P.seen B.seen }
     ensures one_each { OneForEach P.seen B.seen }
     ensures ends { EndsHaveCauses P.seen B.seen }
     ensures still { StillClocksDontEnd P.seen B.seen }

@@ -5,8 +5,8 @@ use crate::resumed::{
     ONE_RECORD, Record, STALE, TWO_RECORDS, TWO_SETTLED, in_epoch_1, put_log, there, untouched,
 };
 use crate::setting::{
-    Bytes, GATE, NOTHING, ONE_SECTOR, RECOVER, Stamped, expect, expect_failing, holds, journal,
-    keeps, put, put_disk, put_head, rests, text, yard, yard_of,
+    Bytes, GATE, NOTHING, ONE_SECTOR, RECOVER, Stamped, expect, expect_failing, has_corrupt_line,
+    holds, journal, keeps, outcome, put, put_disk, put_head, rests, text, yard, yard_of,
 };
 use std::alloc::Global;
 use std::process::Abort;
@@ -516,4 +516,105 @@ fn unread_parameter_file(rt: HostRuntime) {
     expect(&rt, alloc, "first read", GO_ON, &mut yard, wanted, 5);
     let sectors = journal(&rt, alloc, 6, WRITTEN);
     rests(&rt, alloc, &yard, "first read", "sd1.jnl", &sectors);
+}
+
+/// What fails of all that a command works with: the source of the parameter file; the opening of a path; the journal's disk; or an arm, the
+/// first of which verifies and the second works, after so many sectors of a write.
+#[derive(Clone, Copy)]
+enum Object {
+    Source,
+    Opening(&'static str),
+    Disk,
+    Arm(u32, u32),
+}
+
+/// An object, how many calls of it a command makes over a journal that is recovered, and the status where one of them fails.
+const OBJECTS: [(Object, u64, u8); 8] = [
+    (Object::Source, 2, 5),
+    (Object::Opening("p"), 1, 12),
+    (Object::Opening("sd1.jnl"), 1, 12),
+    (Object::Opening("/d/a"), 3, 12),
+    (Object::Disk, 20, 7),
+    (Object::Arm(0, 0), 1, 2),
+    (Object::Arm(1, 0), 5, 2),
+    (Object::Arm(1, 3), 5, 2),
+];
+
+/// The journal of a write that was begun, and its data, where this call of an object fails.
+fn failing_at(rt: &impl Abort, alloc: Global, object: Object, call: u64) -> MemYard {
+    match object {
+        Object::Source => {
+            let mut yard = there(rt, alloc, SMALL, WRITTEN, &[], FIRST, &[]);
+            let file = SMALL.as_bytes().to_vec(alloc).expect(rt, "memory");
+            let reads = Vec::from_slice(alloc, &[call]).expect(rt, "memory");
+            yard.put_file(text(rt, alloc, "p"), file, reads)
+                .expect(rt, "memory");
+            yard
+        }
+        Object::Opening(path) => {
+            let mut yard = there(rt, alloc, SMALL, WRITTEN, &[], FIRST, &[]);
+            yard.refuse(text(rt, alloc, path), call)
+                .expect(rt, "memory");
+            yard
+        }
+        Object::Disk => there(rt, alloc, SMALL, WRITTEN, &[call], FIRST, &[]),
+        Object::Arm(arm, sectors) => there(
+            rt,
+            alloc,
+            SMALL,
+            WRITTEN,
+            &[],
+            FIRST,
+            &[(arm, call, sectors)],
+        ),
+    }
+}
+
+/// Each call of each object fails in turn: the command ends with the object's status, and recovery behind it, with the parameter file as it
+/// was, finds no corrupt block. Where a call fails that isn't made, nothing does.
+#[test]
+fn each_failed_call(rt: HostRuntime) {
+    let alloc = rt.alloc();
+    for (object, calls, status) in OBJECTS {
+        for call in 0..calls {
+            let mut yard = failing_at(&rt, alloc, object, call);
+            let ended = outcome(&rt, alloc, GO_ON, &mut yard, &[]);
+            assert_eq!(rt; ended.number, status, "call {call}");
+            let file = SMALL.as_bytes().to_vec(alloc).expect(&rt, "memory");
+            yard.put_file(text(&rt, alloc, "p"), file, Vec::new(alloc))
+                .expect(&rt, "memory");
+            let after = outcome(&rt, alloc, RECOVER, &mut yard, &[]);
+            assert_eq!(rt; after.number, 0, "behind call {call}");
+            assert!(rt;
+                !has_corrupt_line(after.text.as_slice()),
+                "behind call {call}"
+            );
+        }
+        let mut yard = failing_at(&rt, alloc, object, calls);
+        let row = "no call";
+        expect(&rt, alloc, row, GO_ON, &mut yard, WRITTEN_GOES_ON, 0);
+    }
+}
+
+/// Each write of the output fails in turn: the status is that of the output, a front of the text went out, and recovery behind it finds no
+/// corrupt block. Behind the last write nothing fails.
+#[test]
+fn each_failed_write(rt: HostRuntime) {
+    let alloc = rt.alloc();
+    for write in 0..10u64 {
+        let mut yard = there(&rt, alloc, SMALL, WRITTEN, &[], FIRST, &[]);
+        let ended = outcome(&rt, alloc, GO_ON, &mut yard, &[write]);
+        let status = if write < 9 { 6 } else { 0 };
+        assert_eq!(rt; ended.number, status, "write {write}");
+        let front = WRITTEN_GOES_ON
+            .as_bytes()
+            .starts_with(ended.text.as_slice());
+        assert!(rt; front, "write {write}: another text");
+        let after = outcome(&rt, alloc, RECOVER, &mut yard, &[]);
+        assert_eq!(rt; after.number, 0, "behind write {write}");
+        assert!(rt;
+            !has_corrupt_line(after.text.as_slice()),
+            "behind write {write}"
+        );
+    }
 }

@@ -297,3 +297,47 @@ pub fn expect_failing(
     );
     assert_eq!(rt; status.number(), 6, "write {write}");
 }
+
+/// What a command printed, and its status.
+#[derive(Drop)]
+pub struct Ended {
+    pub text: Vec<u8>,
+    pub number: u8,
+}
+
+/// Runs a command whose listed writes of the output fail.
+pub fn outcome(
+    rt: &(impl Abort + Threads + Wait + Sync),
+    alloc: Global,
+    line: &str,
+    yard: &mut MemYard,
+    failing: &[u64],
+) -> Ended {
+    let words = words_of(rt, alloc, line);
+    let failing = Vec::from_slice(alloc, failing).expect(rt, "memory");
+    let mut out = MemSink::new(alloc, failing);
+    let mut clock = MemClock::new(0, 0);
+    let status = vdbench(
+        rt,
+        alloc,
+        words.as_slice(),
+        yard,
+        &mut out,
+        &mut clock,
+        &OpenGate,
+    );
+    Ended {
+        text: out.bytes().to_vec(alloc).expect(rt, "memory"),
+        number: status.number(),
+    }
+}
+
+/// Whether a line of a text tells a corrupt block.
+pub fn has_corrupt_line(text: &[u8]) -> bool {
+    for at in 0..text.len() {
+        if (at == 0 || text[at - 1] == b'\n') && text[at..].starts_with(b"corrupt ") {
+            return true;
+        }
+    }
+    false
+}

@@ -6,3 +6,4 @@ pub mod Schedules
 pub mod Statuses
 pub mod Runs
 pub mod Sums
+pub mod Kept

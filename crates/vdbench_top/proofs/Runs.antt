@@ -233,8 +233,8 @@ module _ {P B : Type 0} (pass_seen : P → PassSeen) (book_seen : B → BookSeen
   -- The journals that a command opens are those that it recovered.
   next_of : (plan : Plan) (before after : Stage) (starts : List Start) (text : List ℕ) (result : Status) → RunsResumed pass_seen book_seen plan before after starts text result → AreNext plan before.yard starts
   next_of plan before after starts text result (not_recovered stop leaves stay clock none) = inl none
-  next_of plan before after starts text result (not_verified found recovered said have verified rest ends stop blocks leaves disks clock none texts) = inl none
-  next_of plan before after starts text result (resumed found recovered said have seen left verified told looked from rest after_that goes texts is) =
+  next_of plan before after starts text result (not_verified found recovered said have verified rest ends stop blocks same leaves disks clock none texts) = inl none
+  next_of plan before after starts text result (resumed found recovered said have unfailed seen left verified told looked from rest after_that goes texts is) =
       inr (found, map settled_of left, all_recover before.yard plan.stores have.disks found have.each, left_settled recovered verified plan.stores found seen left looked.each, from)
 
   pub reopens_journals : (a b c : YardSeen) (k l : ClockSeen) (again : Bool) (plan now : Plan) (result : Status) (p q : Printing) → OnlyReads a b → now ≡ rereading again plan

@@ -5,3 +5,4 @@ pub mod Simulation
 pub mod Calls
 pub mod Runs
 pub mod Sums
+pub mod Kept

@@ -8,6 +8,7 @@ ghost use Rattle.plan_types.specs.Valid.{IsPlan};
 ghost use Rattle.run_report.specs.Says.{Says, printing};
 ghost use Rattle.plan_runs.specs.Stages.{stage};
 ghost use Rattle.vdbench_top.specs.Calls.{StillCall};
+ghost use Rattle.vdbench_top.specs.Kept.{DataFitsJournals, EndsWell, KeepsFitting, NothingFails};
 ghost use Rattle.vdbench_top.specs.Runs.{CanEndAs, HasJournals, HasNoPlan, MakesJournals, NoJournalEnd, OnlyReads, RunCall, RunsFile, UsesJournals, rereading};
 ghost use Rattle.vdbench_top.specs.Still.{IsPlanOf};
 ghost use Rattle.vdbench_top.specs.Sums.{CallAddsUp};
@@ -20,6 +21,7 @@ use journal_core::JournalBook;
 use key_state::{Book, QuietBook};
 use plan_file::{Unplanned, plan_of_file};
 use plan_journaled::run_journaled;
+use plan_kept::{ending_laws, kept_laws, sound_laws};
 use plan_resumed::run_resumed;
 use plan_runs::run_quietly;
 use plan_totals::runs_add_up;
@@ -237,10 +239,18 @@ where
     ensures sink_quiet { result ≢ Status.Sink → S.faults out.new ≡ S.faults out.old }
 
     // What the runs printed adds up: with its errors, its stores' books, and the counts of their paths. And where the yard tells the data that
-    // it keeps, none of these commands ends by the status of a corrupt block, but one over old journals, which verifies what it finds.
+    // it keeps, none of these commands ends by the status of a corrupt block, where the data fitted the journals that were there.
     ensures adds_up { (asks : Asked) → run_of (map string_bytes words.now) ≡ Some asks →
         (call : RunCall Y.Arm.Pass.seen ⟦<JournalBook<Y::Disk> as Book>⟧.seen (Y.seen yard.old) (Y.seen yard.new) (C.seen clock.old) (C.seen clock.new) (S.taken out.old) (S.taken out.new) (S.faults out.old) (S.faults out.new) asks result) → CallAddsUp call }
-    ensures sound { (asks : Asked) → run_of (map string_bytes words.now) ≡ Some asks → asks.keeping ≢ Keeping.OldJournals → IsTrue (Y.seen yard.old).tells.keeps_contents → result ≢ Status.Corrupt }
+    ensures sound { (asks : Asked) → run_of (map string_bytes words.now) ≡ Some asks → IsTrue (Y.seen yard.old).tells.keeps_contents → DataFitsJournals (Y.seen yard.old) asks → result ≢ Status.Corrupt }
+
+    // Where the yard tells what it keeps, with a status of 0, 1 or 2 the kept data of each store fits whatever a stop may leave of its journal;
+    // over journals that were there, of each store whose data fitted, or whose arms are sure.
+    ensures keeps { (asks : Asked) → run_of (map string_bytes words.now) ≡ Some asks → KeepsFitting (Y.seen yard.old) (Y.seen yard.new) asks result }
+
+    // Where nothing outside fails, the status is that of a run which found nothing, or of want of memory; or, over journals, that one's last
+    // epoch is over.
+    ensures completes { (asks : Asked) → run_of (map string_bytes words.now) ≡ Some asks → NothingFails (Y.seen yard.old) (Y.seen yard.new) (S.faults out.old) (S.faults out.new) asks → EndsWell asks result }
 
     // Runs without journals end by none of the statuses of journals or of words; those over new journals by none of words or of what a
     // journal has in it; and those over old ones by none of words.
@@ -248,6 +258,11 @@ where
 {
     runs_add_up::<<Y::Arm as Arm>::Pass, QuietBook>();
     runs_add_up::<<Y::Arm as Arm>::Pass, JournalBook<Y::Disk>>();
+    sound_laws::<<Y::Arm as Arm>::Pass, QuietBook>();
+    sound_laws::<<Y::Arm as Arm>::Pass, JournalBook<Y::Disk>>();
+    kept_laws::<<Y::Arm as Arm>::Pass, JournalBook<Y::Disk>>();
+    ending_laws::<<Y::Arm as Arm>::Pass, QuietBook>();
+    ending_laws::<<Y::Arm as Arm>::Pass, JournalBook<Y::Disk>>();
     match run_of_words(words) {
         Some((name, again, keeping)) => run_named(
             rt, alloc, yard, name, again, keeping, clock, gate, out,

@@ -1,4 +1,4 @@
-use Rattle.std.proofs.Common.{◌≤◌, length, ap, arith, take, drop, ◌-◌, ◌∙◌}
+use Rattle.std.proofs.Common.{◌≤◌, length, ap, refl, arith, take, drop, ◌-◌, ◌∙◌}
 use Rattle.vd_yard.specs.Yard.{YardSeen}
 use Rattle.journal_core.specs.Book.{seen_of}
 use Rattle.plan_journals.proofs.Closings.{first_book, taken_out}
@@ -6,11 +6,14 @@ use Rattle.plan_journals.proofs.Growing.{leaves_then}
 use Rattle.plan_journals.proofs.Places.{empty_list, first_and_rest}
 use Rattle.plan_reopened.specs.Reopening.{items_of}
 use Rattle.plan_reopened.proofs.Keeping.{apart_more}
-use Rattle.plan_reopened.proofs.Reopenings.{back_of_all, ends_here, ends_more, first_out, grows_first, grows_more, kept_first, ready_first, rest_kept, rest_open, rest_stopped, reopened_more, reopened_none, stand_open, rest_long, stand_stopped, starts_first, still_first, taken_all}
+use Rattle.plan_reopened.proofs.Reopenings.{back_of_all, disks_first, disks_more, ends_here, ends_more, first_out, grows_first, grows_more, kept_first, none_opened, ready_first, rest_kept, rest_open, rest_stopped, reopened_more, reopened_none, stand_open, rest_long, stand_stopped, starts_first, still_first, taken_all}
 use Rattle.plan_reopened.proofs.reopening.+reopen_journals.Goals as goal
 
 pub returns-in_default-clause-opened : goal.returns-in_default-clause-opened
 returns-in_default-clause-opened g t c = reopened_none _ _ _ _ _ _ (empty_list _ c.in_default.len_below)
+
+pub returns-in_default-clause-their_disks : goal.returns-in_default-clause-their_disks
+returns-in_default-clause-their_disks g t c = none_opened _ _ _ _ refl
 
 pub reopen_one-requires-clause-out : goal.reopen_one-requires-clause-out
 reopen_one-requires-clause-out g t c κs within = first_out _ _ _ _ (first_and_rest _ _ c.store-item.is c.in-len1-up.len_at_least) c.requires.out
@@ -65,6 +68,16 @@ returns-in-Ok-clause-stops g t c =
     let some : 1 ≤ length c.args.disks.items = omega arith in
     let more : 1 ≤ length c.args.settled.items = omega arith in
     ends_more _ _ _ _ _ _ _ _ _ _ _ _ _ _ _ _ (first_and_rest _ _ c.store-item.is c.in-len1-up.len_at_least) (starts_first _ _ _ _ _ _ _ _ _ (first_and_rest _ _ c.store-item.is c.in-len1-up.len_at_least) (first_and_rest _ _ c.one-item.is c.in-len1-up-found.len_at_least) (first_book items_of c.args.settled.items c.remove-entries.result _ c.remove-entries.ensures.value c.remove-entries.ensures.by_index.2 more)) c.in-Ok.ensures.opened c.reopen_journals.ensures.stops
+
+pub returns-in-Ok-clause-their_disks : goal.returns-in-Ok-clause-their_disks
+returns-in-Ok-clause-their_disks g t c =
+    let some : 1 ≤ length c.args.disks.items = omega arith in
+    disks_more _ _ _ _ _ _ (first_book g.Y.Disk.Disk.seen c.args.disks.items c.remove-disk.result _ c.remove-disk.ensures.value c.remove-disk.ensures.by_index.2 some) c.in-Ok.ensures.its_disk c.reopen_journals.ensures.their_disks
+
+pub returns-in-Err-clause-their_disks : goal.returns-in-Err-clause-their_disks
+returns-in-Err-clause-their_disks g t c =
+    let some : 1 ≤ length c.args.disks.items = omega arith in
+    disks_first _ _ _ _ _ (first_book g.Y.Disk.Disk.seen c.args.disks.items c.remove-disk.result _ c.remove-disk.ensures.value c.remove-disk.ensures.by_index.2 some) c.in-Err.ensures.at_most_its_disk
 
 pub returns-in-Ok-clause-grows : goal.returns-in-Ok-clause-grows
 returns-in-Ok-clause-grows g t c =

@@ -2,12 +2,15 @@ use Rattle.plan_journals.specs.Open.{held_of}
 use Rattle.plan_journals.proofs.Growing.{back_others, back_rose, one_grows}
 use Rattle.plan_reopened.specs.Reopening.{next_start}
 use Rattle.plan_reopened.proofs.Keeping.{back_same, handed_as_kept, leaves_given}
-use Rattle.plan_reopened.proofs.Reopenings.{kept_same, refused_disk, refused_epoch, refused_low, refused_rose, refused_same, reopened_now}
+use Rattle.plan_reopened.proofs.Reopenings.{kept_same, opened_on, refused_disk, refused_epoch, refused_low, refused_rose, refused_same, reopened_now}
 use Rattle.plan_reopened.proofs.reopening.reopen_journal.Goals as goal
 
 pub returns-in-Ok-clause-opened : goal.returns-in-Ok-clause-opened
 returns-in-Ok-clause-opened g c =
     reopened_now _ c.args.store.now c.args.live.now c.args.entries.items _ (held_of c.in-Ok.book) c.requires.ready.its_id c.in-Ok.ensures.opened c.in-Ok.ensures.ready (λ t. handed_as_kept _ _ (c.requires.kept t) (record { tale = g.met.Y.Disk.Disk.is_tale c.args.disk; untold = g.met.Y.Disk.Disk.untold c.args.disk })) c.one_history.ensures.over
+
+pub returns-in-Ok-clause-its_disk : goal.returns-in-Ok-clause-its_disk
+returns-in-Ok-clause-its_disk g c = opened_on _ _ _ (held_of c.in-Ok.book) c.in-Ok.ensures.opened
 
 pub returns-in-EpochEnd-clause-grows : goal.returns-in-EpochEnd-clause-grows
 returns-in-EpochEnd-clause-grows g c =

@@ -1,9 +1,9 @@
-use Rattle.std.proofs.Common.{ap, refl, ◌∙◌, ℕ, ◌+◌}
+use Rattle.std.proofs.Common.{ap, refl, ◌∙◌, ℕ, ◌+◌, [], ◌∷◌}
 use Rattle.journal_core.specs.Book.{seen_of}
 use Rattle.plan_journals.proofs.Openings.{one_more_book}
 use Rattle.plan_reopened.specs.Reopening.{next_start}
 use Rattle.plan_reopened.proofs.Keeping.{back_else, back_same, leaves_given}
-use Rattle.plan_reopened.proofs.Reopenings.{ends_unopened, ends_unreserved, grows_same, low_next, opened_said, opened_unsaid, quiet_refusal}
+use Rattle.plan_reopened.proofs.Reopenings.{ends_unopened, ends_unreserved, grows_same, low_next, none_opened, opened_said, opened_unsaid, quiet_refusal}
 use Rattle.plan_reopened.proofs.reopening.reopen_one.Goals as goal
 
 pub returns-in_default-clause-leaves : goal.returns-in_default-clause-leaves
@@ -32,6 +32,20 @@ returns-in-Err-clause-stops g c =
       disk_quiet = λ isnt. o.disk_quiet (λ e. isnt (cc e));
     })
     c.refuse.ensures
+
+pub returns-in_default-clause-at_most_its_disk : goal.returns-in_default-clause-at_most_its_disk
+returns-in_default-clause-at_most_its_disk g c = none_opened _ _ _ _ c.in_default.ensures.items
+
+pub returns-in-Err-clause-at_most_its_disk : goal.returns-in-Err-clause-at_most_its_disk
+returns-in-Err-clause-at_most_its_disk g c = none_opened _ _ _ _ c.in-Ok.ensures.items
+
+pub returns-in-Good-clause-its_disk : goal.returns-in-Good-clause-its_disk
+returns-in-Good-clause-its_disk g c =
+    (seen_of c.in-Ok-reopen_journal.book, one_more_book _ _ _ _ c.in-Ok-reopen_journal.book c.in-Ok.ensures.items c.push_reserved.ensures.items, c.in-Ok-reopen_journal.ensures.its_disk)
+
+pub returns-in_default-say_reopened-clause-at_most_its_disk : goal.returns-in_default-say_reopened-clause-at_most_its_disk
+returns-in_default-say_reopened-clause-at_most_its_disk g c =
+    (seen_of c.in-Ok-reopen_journal.book ∷ [], one_more_book _ _ _ _ c.in-Ok-reopen_journal.book c.in-Ok.ensures.items c.push_reserved.ensures.items, (c.in-Ok-reopen_journal.ensures.its_disk, tt))
 
 pub returns-in-Err-clause-disk_quiet : goal.returns-in-Err-clause-disk_quiet
 returns-in-Err-clause-disk_quiet g c j m = c.in-Err.ensures.disk_quiet (λ e. quiet_refusal c.in-Err.why _ _ _ c.args.store.now c.refuse.ensures (λ s. j (cc s)) (λ s. m (cc s)) (cc e))

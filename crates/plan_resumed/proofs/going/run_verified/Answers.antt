@@ -23,7 +23,7 @@ use Rattle.plan_journaled.specs.Over.{RunsClosed}
 use Rattle.plan_resumed.specs.Going.{ClosedUnused, LeavesYard}
 use Rattle.plan_resumed.specs.Seating.{emptied, with_passes}
 use Rattle.plan_resumed.proofs.Ending.{after_refuses, ends_journal, memory_stays, refused_same, refuses}
-use Rattle.plan_resumed.proofs.Parts.{along, arms_over, back_along, back_emptied, closed_unused, held_books, plan_apart, told_after, told_before, unused_grown, went_not, went_ran, went_stopped, went_unseated}
+use Rattle.plan_resumed.proofs.Parts.{all_opened_on, along, arms_over, back_along, back_emptied, closed_unused, held_books, plan_apart, told_after, told_before, unused_grown, went_not, went_ran, went_stopped, went_unseated}
 use Rattle.plan_resumed.proofs.Outs.{disks_out, hands_out, journals_out, left_out, open_out}
 use Rattle.plan_resumed.proofs.Seats.{long_same, long_seated, seated_books, seated_emptied}
 use Rattle.plan_resumed.proofs.Starts.{are_seated, long_starts, passed_long}
@@ -98,7 +98,7 @@ returns-in_default-clause-went g c =
     let e = g.Y.Yard.seen c.give_back-in_default.new.yard in
     let after = stage [] e (g.C.Clock.seen c.args.clock.now) 0 p in
     let disks = c.give_back-in_default.ensures.same (λ told. along (λ (k : Kept DiskSeen) (l : List StorePlan). AreStillKept k l (map g.Y.Disk.Disk.seen c.args.disks.items)) (sym back.disks) (sym all) (c.requires.kept (told_before a d back.tells told))) in
-    went_not ps book plan starts left before after status.NoMemory (record { back = d; passes = back_along plan stores left now a d all same_seen back; rest = c.give_back-in_default.ensures.leaves; faults = c.give_back-in_default.ensures.faults; disks = disks; printing = refl }) refl refl
+    went_not ps book plan (map g.Y.Disk.Disk.seen c.args.disks.items) starts left before after status.NoMemory (record { back = d; passes = back_along plan stores left now a d all same_seen back; rest = c.give_back-in_default.ensures.leaves; faults = c.give_back-in_default.ensures.faults; disks = disks; printing = refl }) refl refl
 
 pub returns-in_default-clause-back : goal.returns-in_default-clause-back
 returns-in_default-clause-back g c first is =
@@ -341,7 +341,7 @@ returns-in-Err-clause-went g c =
     let has = ap refuses is ∙ after_refuses a b plan.stores c.args.found.now settled books p said why ends closing answers in
     let changes = unused_grown plan stores starts a b d e books all c.reopen_journals-opened.ensures.leaves.tells back.tells back.disks stands.from grown c.close_journals-closing.ensures.grows in
     let others : (path : List ℕ) → IsNoneOf path (take size plan.stores) → kept_at e.disks path ≡ kept_at b.disks path = λ path other. subst (λ (l : List StorePlan). (q : List ℕ) → IsNoneOf q (take size l) → kept_at e.disks q ≡ kept_at d.disks q) all c.close_journals-closing.ensures.others path other ∙ ap (λ (k : Kept DiskSeen). kept_at k path) back.disks in
-    went_stopped ps book plan starts left before after result books b said why ends c.reopen_journals-opened.ensures.leaves c.reopen_journals-opened.ensures.faults unused refl is has changes
+    went_stopped ps book plan (map g.Y.Disk.Disk.seen c.args.disks.items) starts left before after result books b said why ends (all_opened_on _ _ _ empty c.reopen_journals-opened.ensures.their_disks) c.reopen_journals-opened.ensures.leaves c.reopen_journals-opened.ensures.faults unused refl is has changes
     (λ so told. ends_journal a b plan.stores c.args.found.now settled books p said why ends e size (sym (length-map c.reopen_journals-opened.new.books.items book)) (refused_same status.Journal why closing result (λ no. cc) answers is so) told (plan_apart plan plan.stores c.requires.plan refl) others)
 
 pub open_hands_of-requires-clause-as_many : goal.open_hands_of-requires-clause-as_many
@@ -556,7 +556,7 @@ returns-in_default-open_hands_of-clause-went g c =
     let unused = closed_unused plan stores left books b d said after (map held_of c.open_hands_of.new.books.items) closing all passes (held_books c.open_hands_of.new.books.items ∙ ap (map book) kept) c.close_journals-closing-in_default-open_hands_of.ensures.ends answers c.close_journals-closing-in_default-open_hands_of.ensures.leaves c.close_journals-closing-in_default-open_hands_of.ensures.faults in
     let unused_here = subst (λ (y : YardSeen). ClosedUnused plan left books y said after) opens0.same unused in
     let changes = unused_grown plan stores starts a b d e (map book c.open_hands_of.new.books.items) all c.reopen_journals-opened.ensures.leaves.tells back.tells back.disks (λ told. subst (λ (l : List BookSeen). AreFrom a.disks plan.stores starts l) (sym (ap (map book) kept)) (stands.from told)) grown c.close_journals-closing-in_default-open_hands_of.ensures.grows in
-    went_unseated ps book plan starts left before after result books said opens unused_here refl is changes
+    went_unseated ps book plan (map g.Y.Disk.Disk.seen c.args.disks.items) starts left before after result books said opens (all_opened_on _ _ _ empty c.reopen_journals-opened.ensures.their_disks) unused_here refl is changes
 
 pub run_over-requires-clause-stores : goal.run_over-requires-clause-stores
 run_over-requires-clause-stores g c κs within =
@@ -769,5 +769,5 @@ returns-clause-went g c =
     let tells = c.reopen_journals-opened.ensures.leaves.tells in
     let ran = subst (λ (y : YardSeen). (rest : List ℕ) × RunsClosed ps book plan (stage hands y before.clock 0 said) after rest result) opens0.same c.run_over.ensures.ran in
     let changes = c.run_over.ensures.grows starts a.disks (λ told. from (told_before a b tells told)) grown in
-    went_ran ps book plan starts left before after result books said hands c.requires.plan opens its as_many all_books ran (subst (λ (y : YardSeen). LeavesYard y e result) opens0.same leaves) changes from
+    went_ran ps book plan (map g.Y.Disk.Disk.seen c.args.disks.items) starts left before after result books said hands c.requires.plan opens (all_opened_on _ _ _ empty c.reopen_journals-opened.ensures.their_disks) (are_seated plan a (map g.Y.Disk.Disk.seen c.args.disks.items) c.args.found.now settled left books c.requires.passed c.requires.ready (subst (λ (l : List BookSeen). AreOpenedNow a starts l) (sym opens.books) opens.opened) all_books) its as_many all_books ran (subst (λ (y : YardSeen). LeavesYard y e result) opens0.same leaves) changes from
     (λ so told. c.run_over.ensures.journal_fault starts a.disks so (told_after a b tells told) (plan_apart plan plan.stores c.requires.plan refl) (from told))

@@ -1,4 +1,4 @@
-use Rattle.std.proofs.Common.{◌≡◌, ◌∙◌, refl, sym, ap, subst, arith, ℕ, List, [], ◌++◌, length, map, take, ◌<◌}
+use Rattle.std.proofs.Common.{◌≡◌, ◌∙◌, refl, sym, ap, subst, arith, ℕ, false, List, [], ◌++◌, length, map, take, ◌<◌}
 use Rattle.std.proofs.lemmas.List.{length-map, take_all}
 use Rattle.vd_outside.specs.Causes.{Rose}
 use Rattle.vd_disk.specs.Disk.{DiskSeen}
@@ -10,10 +10,10 @@ use Rattle.journal_recover.specs.declared.found.Recovered.{Recovered}
 use Rattle.run_report.specs.Says.{Says, printing}
 use Rattle.run_report.specs.declared.status.Status.TheVariants as status
 use Rattle.journal_core.specs.Book.{seen_of}
-use Rattle.still_plan.specs.Frame.{AreApart, StoresStay}
+use Rattle.still_plan.specs.Frame.{AreApart, CountsStay, IsPathOf, StoresStay}
 use Rattle.still_plan.specs.Journals.{AreFit, JournalsStop, journals_text}
 use Rattle.still_plan.specs.Stores.{StoresEnd, all_looks, stores_text}
-use Rattle.plan_verified.specs.Stores.{LeaveStores, settled_of, store_seen}
+use Rattle.plan_verified.specs.Stores.{LeaveStores, settled_of, store_seen, stores_out}
 use Rattle.plan_journals.specs.Growth.{SomeRose}
 use Rattle.plan_journals.specs.Open.{journals_are_out, out_besides}
 use Rattle.plan_reopened.specs.Kept.{AreStillKept}
@@ -26,7 +26,7 @@ use Rattle.plan_resumed.specs.Going.{WentOn}
 use Rattle.plan_resumed.specs.Resumed.{HaveRecovered, HaveVerified}
 use Rattle.plan_resumed.proofs.Looking.{as_many_found, came_of_rest, can_resumed, faults_of_both, left_passed, looks_on, quiet_of_both, recovered_fit, resumed_not, resumed_on, resumed_stopped, rose_of_both, stores_apart}
 use Rattle.plan_resumed.proofs.Parts.{along, plan_apart, told_after, told_before}
-use Rattle.plan_resumed.proofs.Silence.{some_store, some_taken}
+use Rattle.plan_resumed.proofs.Silence.{not_failed, some_passes, some_store, some_taken}
 use Rattle.plan_resumed.proofs.resumed.run_resumed.Goals as goal
 
 pub recover_journals-requires-clause-apart : goal.recover_journals-requires-clause-apart
@@ -278,11 +278,13 @@ returns-in-Ok-looked-clause-ran g c =
     let rest = c.run_verified-rest.result in
     let result = c.worse.result in
     let went0 = c.run_verified-rest.ensures.went in
-    let have = (let h : HaveRecovered plan before found m p1 = record { disks = disks; each = each; says = subst (λ (s : List StorePlan). Says p0 p1 (journals_text s found)) all c.in-Ok.ensures.recovers.1; leaves = c.recover_journals.ensures.leaves; same = c.in-Ok.ensures.same; faults = c.in-Ok.ensures.yard_quiet (λ e. cc) (λ e. cc) } in h) in
+    let have = (let h : HaveRecovered plan before found m p1 = record { disks = disks; each = each; says = subst (λ (s : List StorePlan). Says p0 p1 (journals_text s found)) all c.in-Ok.ensures.recovers.1; leaves = c.recover_journals.ensures.leaves; out = subst (λ (s : List StorePlan). m.out ≡ out_besides a.out s) all c.in-Ok.ensures.taken; same = c.in-Ok.ensures.same; faults = c.in-Ok.ensures.yard_quiet (λ e. cc) (λ e. cc) } in h) in
     let after = stage [] e (g.C.Clock.seen c.run_verified-rest.new.clock) 0 (printing c.run_verified-rest.new.printer.failed (g.S.Sink.taken c.run_verified-rest.new.out) (g.S.Sink.faults c.run_verified-rest.new.out)) in
-    let verified : HaveVerified plan found looks left m p1 l p2 = record { each = lefts; says = along (λ (s : List StorePlan) (f : List Recovered). Says p1 p2 (stores_text s f looks)) all same_found leaves0.5; stays = c.look_at_stores-looked.ensures.stays; disks = c.look_at_stores-looked.ensures.disks; contents = c.in-Ok-looked.ensures.kept } in
-    let went = subst (λ (f : List Recovered). WentOn ps book plan (next_starts plan.stores f settled) left (stage [] l (g.C.Clock.seen c.args.clock.now) 0 p2) after rest) same_f2 went0 in
-    resumed_on ps book plan before after result found m p1 have looks left l p2 verified first rest first_is c.worse.ensures went
+    let verified : HaveVerified plan found looks left m p1 l p2 = record { each = lefts; says = along (λ (s : List StorePlan) (f : List Recovered). Says p1 p2 (stores_text s f looks)) all same_found leaves0.5; stays = c.look_at_stores-looked.ensures.stays; out = subst (λ (s : List StorePlan). l.out ≡ stores_out s m.out) all c.in-Ok-looked.ensures.taken; sources = c.look_at_stores-looked.ensures.sources; elsewhere = subst (λ (s : List StorePlan). (q : List ℕ) → (IsPathOf s q → ⊥) → CountsStay m l q) all c.look_at_stores-looked.ensures.elsewhere; disks = c.look_at_stores-looked.ensures.disks; contents = c.in-Ok-looked.ensures.kept } in
+    let went = subst (λ (f : List Recovered). WentOn ps book plan disks (next_starts plan.stores f settled) left (stage [] l (g.C.Clock.seen c.args.clock.now) 0 p2) after rest) same_f2 went0 in
+    let some : 0 < length stores = subst (λ (s : List StorePlan). 0 < length s) (sym all) (some_store plan c.requires) in
+    let unfailed : p1.failed ≡ false = not_failed c.recover_journals.new.printer.failed (λ shut. some_passes m.out l.out stores some c.in-Ok-looked.ensures.taken (ap (λ (y : YardSeen). y.out) (c.look_at_stores-looked.ensures.silent shut))) in
+    resumed_on ps book plan before after result found m p1 have unfailed looks left l p2 verified first rest first_is c.worse.ensures went
 
 pub returns-in-Ok-looked-clause-journal_fault : goal.returns-in-Ok-looked-clause-journal_fault
 returns-in-Ok-looked-clause-journal_fault g c so told =
@@ -608,14 +610,14 @@ returns-clause-ran g c =
     let p2 = printing c.look_at_stores-looked.new.printer.failed (g.S.Sink.taken c.look_at_stores-looked.new.out) (g.S.Sink.faults c.look_at_stores-looked.new.out) in
     let tells = (let t : l.tells ≡ a.tells = c.look_at_stores-looked.ensures.stays.tells ∙ c.recover_journals.ensures.leaves.tells in t) in
     let same_disks = (let t : l.disks ≡ a.disks = c.look_at_stores-looked.ensures.disks ∙ c.in-Ok.ensures.same in t) in
-    let have = (let h : HaveRecovered plan before found m p1 = record { disks = disks; each = each; says = subst (λ (s : List StorePlan). Says p0 p1 (journals_text s found)) all c.in-Ok.ensures.recovers.1; leaves = c.recover_journals.ensures.leaves; same = c.in-Ok.ensures.same; faults = c.in-Ok.ensures.yard_quiet (λ e. cc) (λ e. cc) } in h) in
+    let have = (let h : HaveRecovered plan before found m p1 = record { disks = disks; each = each; says = subst (λ (s : List StorePlan). Says p0 p1 (journals_text s found)) all c.in-Ok.ensures.recovers.1; leaves = c.recover_journals.ensures.leaves; out = subst (λ (s : List StorePlan). m.out ≡ out_besides a.out s) all c.in-Ok.ensures.taken; same = c.in-Ok.ensures.same; faults = c.in-Ok.ensures.yard_quiet (λ e. cc) (λ e. cc) } in h) in
     let e = g.Y.Yard.seen c.give_back.new.yard in
     let after = stage [] e (g.C.Clock.seen c.args.clock.now) 0 p2 in
     let result = c.in-Err-looked.status in
     let said = along (λ (s : List StorePlan) (f : List Recovered). (text : List ℕ) × Says p1 p2 text × StoresEnd m l s f text result) all same_found c.in-Err-looked.ensures.said in
     let stay = subst (λ (s : List StorePlan). StoresStay s m.contents l.contents) all c.look_at_stores-looked.ensures.contents in
     let keeps = c.give_back.ensures.same (λ told. subst (λ (k : Kept DiskSeen). AreStillKept k stores disks) (sym same_disks) (recovered_kept a stores disks found each0 (told_before a l tells told))) in
-    resumed_stopped ps book plan before after result found m p1 have l said c.in-Err-looked.ensures.stops stay c.give_back.ensures.leaves (λ path. keeps path ∙ ap (λ (k : Kept DiskSeen). kept_at k path) same_disks) refl
+    resumed_stopped ps book plan before after result found m p1 have l said c.in-Err-looked.ensures.stops stay c.look_at_stores-looked.ensures.stays c.give_back.ensures.leaves (λ path. keeps path ∙ ap (λ (k : Kept DiskSeen). kept_at k path) same_disks) refl
 
 pub returns-in-Ok-looked-clause-silent : goal.returns-in-Ok-looked-clause-silent
 returns-in-Ok-looked-clause-silent g c shut =

@@ -1,4 +1,4 @@
-use Rattle.run_totals.proofs.Wholes.{all_sources_stay, corrupt_are_bad, ends_have_causes, errors_are, faults_are_counted, fitting_stays, one_for_each, other_paths_stay, passes_come_back, reads_are_good, still_clocks, writes_are_ends, writes_are_good}
+use Rattle.run_totals.proofs.Wholes.{all_sources_stay, corrupt_are_bad, ends_have_causes, errors_are, faults_are_counted, fitting_stays, one_for_each, other_paths_stay, passes_come_back, reads_are_good, still_clocks, sure_dont_fail, writes_are_ends, writes_are_good}
 use Rattle.run_totals.proofs.Works.{Laws}
 use Rattle.slave_worker.specs.Sentences.{FaultsAreCounted, FaultsAreFound, NoMoreCorrupt, NotedOnce, ReadsAreGood, WritesAreEnded, WritesAreGood}
 use Rattle.run_totals.proofs.law.run_adds_up.Goals as goal
@@ -71,3 +71,8 @@ returns-clause-ends g c =
 
 pub returns-clause-still : goal.returns-clause-still
 returns-clause-still g c = still_clocks g.P.Pass.seen g.B.Book.seen
+
+pub returns-clause-sure : goal.returns-clause-sure
+returns-clause-sure g c =
+    let e = c.turns_add_up.ensures in
+    sure_dont_fail g.P.Pass.seen g.B.Book.seen (laws e.writes e.no_more e.reads e.good_writes e.faults e.findings e.notes)

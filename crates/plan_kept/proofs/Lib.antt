@@ -1,0 +1,10 @@
+pub mod Blocks
+pub mod Back
+pub mod Seats
+pub mod Settled
+pub mod Looks
+pub mod Fitting
+pub mod Anew
+pub mod Again
+pub mod Sure
+pub mod Ends
