@@ -14,7 +14,7 @@ use Rattle.run_report.specs.declared.run_sums.Group.TheVariants as group
 use Rattle.run_totals.proofs.Lists.{all_at, all_from, each_at, filter_at, none_of_total, sum_is_total}
 use Rattle.plan_totals.specs.Made.{MadeRun, totals_in}
 
-zip_get : {A B : Type 0} (xs : List A) (ys : List B) (i : ℕ) (x : A) (y : B) → slice_get xs i ≡ Some x → slice_get ys i ≡ Some y → slice_get (zip xs ys) i ≡ Some (x, y)
+pub zip_get : {A B : Type 0} (xs : List A) (ys : List B) (i : ℕ) (x : A) (y : B) → slice_get xs i ≡ Some x → slice_get ys i ≡ Some y → slice_get (zip xs ys) i ≡ Some (x, y)
 zip_get [] ys i x y at_x at_y = absurd (none-some x at_x)
 zip_get (a ∷ xs) [] i x y at_x at_y = absurd (none-some y at_y)
 zip_get {A} {B} (a ∷ xs) (b ∷ ys) zero x y at_x at_y = ap (λ (p : A). Some (p, b)) (same_Some a x at_x) ∙ ap (λ (q : B). Some (x, q)) (same_Some b y at_y)

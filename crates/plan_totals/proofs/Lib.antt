@@ -11,3 +11,8 @@ pub mod Wholes
 pub mod Quiet
 pub mod Found
 pub mod Sure
+pub mod Slaves
+pub mod Good
+pub mod Turns
+pub mod Lines
+pub mod Drawn

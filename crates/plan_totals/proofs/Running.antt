@@ -70,7 +70,7 @@ tells_fit store block entry None long fits = absurd fits
 tells_fit store block entry (Some bytes) long fits = (long bytes refl, fits)
 
 -- A store without a worker has no totals.
-none_here : (place : ℕ) (workers : List WorkerPlan) (tallies : List Tallied) → list_any (λ (worker : WorkerPlan). worker.store == place) workers ≡ false → filter (λ (one : WorkerPlan × Tallied). is_of (group.Store place) one.0) (zip workers tallies) ≡ []
+pub none_here : (place : ℕ) (workers : List WorkerPlan) (tallies : List Tallied) → list_any (λ (worker : WorkerPlan). worker.store == place) workers ≡ false → filter (λ (one : WorkerPlan × Tallied). is_of (group.Store place) one.0) (zip workers tallies) ≡ []
 none_here place [] [] none = refl
 none_here place [] (tally ∷ tallies) none = refl
 none_here place (worker ∷ workers) [] none = refl
@@ -142,7 +142,7 @@ module _ {P B : Type 0} (pass_seen : P → PassSeen) (book_seen : B → BookSeen
     Its = RunStore pass_seen book_seen whole
 
     -- A store that works: its hand as the law of one run says.
-    by_none : (its : Its) → well → NoneByBook pass_seen book_seen whole its
+    pub by_none : (its : Its) → well → NoneByBook pass_seen book_seen whole its
     by_none its is =
         let hands = map (hand_seen pass_seen book_seen) answer.hands.items in
         let not_last = (last_worse (books_status run answer.ends.items hands) (tallies_status answer.tallies.items) (is_well is)).0 in

@@ -37,7 +37,7 @@ use Rattle.plan_totals.proofs.Steps.{IsCountedOf, KeepsSame, Step}
 use Rattle.plan_totals.proofs.Texts.{at_most_one, corrupt_is, corrupt_tally, first_made, left_out, refused_is, some_corrupt, text_is, went_on}
 use Rattle.plan_totals.proofs.Zips.{range_at, zip_at}
 
-found_at : {A : Type 0} (xs : List A) (i : ℕ) → i < length xs → (x : A) × (slice_get xs i ≡ Some x)
+pub found_at : {A : Type 0} (xs : List A) (i : ℕ) → i < length xs → (x : A) × (slice_get xs i ≡ Some x)
 found_at xs i within = elim ((slice_get_cases xs i).1) [
   | inl found ↦ (found.0, found.2)
   | inr past ↦ absurd (omega (arith, within, past.0))

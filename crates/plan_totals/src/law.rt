@@ -1,8 +1,9 @@
-// What all runs of a plan add up to.
+// What all runs of a plan add up to, and what they have to do with the draws of their workers.
+ghost use Rattle.plan_totals.specs.Drawn.{LinesAreDrawn, SlavesTellTurns, StillRunsMakeAllTurns};
 ghost use Rattle.plan_totals.specs.Sentences.{ContentsStay, CorruptAreBad, ErrorsAreFindings, FaultsAreArmFaults, FindingsAreTold, FirstAreMade, FittingStaysSo, NoneIsCorrupt, NoneIsLeftOut, OneForEach, OtherPathsStay, ReadsAreGoodReads, RefusedIsTold, SourcesStay, StartBelowLimit, StatusIsFound, StoresStay, SureArmsDontFail, TextIsTheirs, UnwrittenFit, UnwrittenPlansFit, WritesAreEnds, WritesAreGoodWrites};
 
 use key_state::Book;
-use run_totals::run_adds_up;
+use run_totals::{run_adds_up, run_is_drawn};
 use vd_arm::Pass;
 
 /// Which runs of a plan were made, and what they have to do with its text, its errors, its stores' books, and the counts of their paths.
@@ -32,4 +33,14 @@ pub fn runs_add_up<P: Pass, B: Book>()
     ensures unwritten_plans { UnwrittenPlansFit P.seen B.seen }
 {
     run_adds_up::<P, B>();
+}
+
+/// What the total lines of a plan's runs have to do with the turns that their workers drew.
+pub fn runs_are_drawn<P: Pass, B: Book>()
+    ensures drawn { LinesAreDrawn P.seen B.seen }
+    ensures turns { SlavesTellTurns P.seen B.seen }
+    ensures still { StillRunsMakeAllTurns P.seen B.seen }
+{
+    run_adds_up::<P, B>();
+    run_is_drawn::<P, B>();
 }

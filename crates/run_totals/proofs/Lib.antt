@@ -7,3 +7,5 @@ pub mod Works
 pub mod Totals
 pub mod Paths
 pub mod Wholes
+pub mod Draws
+pub mod Drawn

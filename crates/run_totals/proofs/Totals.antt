@@ -1,6 +1,7 @@
 -- The totals of a store's workers, as sums over their labors.
-use Rattle.std.proofs.Common.{◌≡◌, ℕ, ◌-◌, ◌%◌, ◌^◌, ◌≤◌, min, List, [], ◌∷◌, map, sum_by, refl, sym, ap, subst, ◌∙◌, arith}
+use Rattle.std.proofs.Common.{◌≡◌, ℕ, ◌-◌, ◌%◌, ◌^◌, ◌≤◌, min, List, [], ◌∷◌, length, map, sum_by, refl, sym, ap, subst, ◌∙◌, arith}
 use Rattle.std.specs.List.{filter, zip}
+use Rattle.std.proofs.lemmas.List.{length-map}
 use Rattle.plan_types.specs.declared.run.WorkerPlan.{WorkerPlan}
 use Rattle.claim_table.specs.Sums.{Each, total}
 use Rattle.worker_tally.specs.Tallies.{Tallied}
@@ -23,7 +24,7 @@ pairs_of of all workers others are_workers are_others =
     ap (λ l. zip l others) (sym are_workers) ∙ ap (λ l. zip (map (λ (labor : Labor). labor.worker) all) l) are_others ∙ zip_maps (λ (labor : Labor). labor.worker) of all
 
 -- the workers of a store with their tallies are those of its labors
-their_tallies : (place : ℕ) (all labors : List Labor) (workers : List WorkerPlan) (tallies : List Tallied) → map (λ (labor : Labor). labor.worker) all ≡ workers → tallies ≡ map (λ (labor : Labor). labor.tally) all → filter (of_store place) all ≡ labors → filter (λ (one : WorkerPlan × Tallied). is_of (group.Store place) one.0) (zip workers tallies) ≡ map told labors
+pub their_tallies : (place : ℕ) (all labors : List Labor) (workers : List WorkerPlan) (tallies : List Tallied) → map (λ (labor : Labor). labor.worker) all ≡ workers → tallies ≡ map (λ (labor : Labor). labor.tally) all → filter (of_store place) all ≡ labors → filter (λ (one : WorkerPlan × Tallied). is_of (group.Store place) one.0) (zip workers tallies) ≡ map told labors
 their_tallies place all labors workers tallies are_workers are_tallies own =
     ap (λ l. filter (λ (one : WorkerPlan × Tallied). is_of (group.Store place) one.0) l) (pairs_of (λ (labor : Labor). labor.tally) all workers tallies are_workers are_tallies)
     ∙ filter_of_map told (λ (one : WorkerPlan × Tallied). is_of (group.Store place) one.0) all
@@ -42,6 +43,10 @@ pub record AreTotals (labors : List Labor) (totals : Totals) : Type 0 where
   pub writes : totals.writes ≡ total (λ (labor : Labor). labor.tally.numbers.writes) labors
   pub faults : totals.faults ≡ total (λ (labor : Labor). labor.tally.numbers.faults) labors
   pub corrupt : totals.corrupt ≡ total (λ (labor : Labor). labor.tally.numbers.corrupt) labors
+  pub turns : totals.turns ≡ total (λ (labor : Labor). labor.tally.numbers.turns) labors
+  pub busy : totals.busy ≡ total (λ (labor : Labor). labor.tally.numbers.busy) labors
+  pub badskip : totals.badskip ≡ total (λ (labor : Labor). labor.tally.numbers.badskip) labors
+  pub workers : totals.workers ≡ length labors
 
 of_told : (labors : List Labor) → AreTotals labors (totals_of (map told labors))
 unfolding totals_of
@@ -52,6 +57,10 @@ of_told labors = record {
   writes = number_sum (λ n. n.writes) labors;
   faults = number_sum (λ n. n.faults) labors;
   corrupt = number_sum (λ n. n.corrupt) labors;
+  turns = number_sum (λ n. n.turns) labors;
+  busy = number_sum (λ n. n.busy) labors;
+  badskip = number_sum (λ n. n.badskip) labors;
+  workers = length-map labors told;
 }
 
 pub are_totals : (place : ℕ) (all labors : List Labor) (workers : List WorkerPlan) (tallies : List Tallied) → map (λ (labor : Labor). labor.worker) all ≡ workers → tallies ≡ map (λ (labor : Labor). labor.tally) all → filter (of_store place) all ≡ labors → AreTotals labors (group_totals (group.Store place) (zip workers tallies))

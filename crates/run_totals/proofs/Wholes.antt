@@ -39,24 +39,24 @@ use Rattle.run_totals.proofs.Totals.{AreTotals, are_totals, pairs_of, total_held
 use Rattle.run_totals.proofs.Works.{AddUp, Laws, adds_up, ends_by, fits_none, none_failed, not_by_time}
 
 module _ {P B : Type 0} (pass_seen : P → PassSeen) (book_seen : B → BookSeen) where
-  abbrev beginning_of : WholeRun pass_seen book_seen → Beginning
+  abbrev pub beginning_of : WholeRun pass_seen book_seen → Beginning
   beginning_of whole = record { start = whole.did.start; clock = whole.clock_after; tells = whole.yard_before.tells }
 
-  abbrev all_of : WholeRun pass_seen book_seen → List Labor
+  abbrev pub all_of : WholeRun pass_seen book_seen → List Labor
   all_of whole = all_labors whole.did.crews
 
   -- the run's stores are in order
   in_order : (whole : WholeRun pass_seen book_seen) → IsRising 0 (map (λ (hand : StoreHand P B). hand.store) whole.hands)
   in_order whole = subst (λ (l : List ℕ). IsRising 0 l) (sym whole.are_hands.places) (range_rises (λ store. list_any (λ (worker : WorkerPlan). worker.store == store) whole.run.workers) 0 (length whole.plan.stores))
 
-  abbrev Crew : (whole : WholeRun pass_seen book_seen) → StoreOf pass_seen book_seen whole → Type 0
+  abbrev pub Crew : (whole : WholeRun pass_seen book_seen) → StoreOf pass_seen book_seen whole → Type 0
   Crew whole its = CrewOf pass_seen book_seen whole.plan whole.run (beginning_of whole) its.hand its.back whole.did.crews
 
-  crew_of : (whole : WholeRun pass_seen book_seen) (its : StoreOf pass_seen book_seen whole) → Crew whole its
+  pub crew_of : (whole : WholeRun pass_seen book_seen) (its : StoreOf pass_seen book_seen whole) → Crew whole its
   crew_of whole its = crew_at pass_seen book_seen whole.plan whole.run (beginning_of whole) 0 whole.hands whole.did.crews whole.answer.hands.items its.at its.hand its.back (in_order whole) whole.did.ran its.went_in its.came_back
 
   -- each of its labors is one of the run, and adds up
-  each_is : (whole : WholeRun pass_seen book_seen) → Each (IsLabor whole.plan whole.run (beginning_of whole)) (all_of whole)
+  pub each_is : (whole : WholeRun pass_seen book_seen) → Each (IsLabor whole.plan whole.run (beginning_of whole)) (all_of whole)
   each_is whole = all_are pass_seen book_seen whole.plan whole.run (beginning_of whole) whole.hands whole.did.crews whole.answer.hands.items whole.did.ran
 
   all_add_up : Laws → (whole : WholeRun pass_seen book_seen) → Each AddUp (all_of whole)
@@ -70,10 +70,10 @@ module _ {P B : Type 0} (pass_seen : P → PassSeen) (book_seen : B → BookSeen
     add_up : Each AddUp (crew_of whole its).labors
     add_up = subst (λ (l : List Labor). Each AddUp l) (crew_of whole its).own (each_kept AddUp (of_store its.hand.store) (all_of whole) (all_add_up laws whole))
 
-    same_store : (crew_of whole its).store ≡ its.store
+    pub same_store : (crew_of whole its).store ≡ its.store
     same_store = same_Some (crew_of whole its).store its.store (sym (crew_of whole its).its_store ∙ its.its_store)
 
-    totals_are : AreTotals (crew_of whole its).labors (totals_of_store pass_seen book_seen whole its)
+    pub totals_are : AreTotals (crew_of whole its).labors (totals_of_store pass_seen book_seen whole its)
     totals_are = are_totals its.hand.store (all_of whole) (crew_of whole its).labors whole.run.workers whole.answer.tallies.items whole.did.workers whole.did.tallies (crew_of whole its).own
 
     -- what the store's arms add to its path
@@ -97,7 +97,7 @@ module _ {P B : Type 0} (pass_seen : P → PassSeen) (book_seen : B → BookSeen
         ∙ ap (λ (n : ℕ). (shows whole.yard_before.counts its.store.path + n) % 2 ^ 64) (path_sum count)
 
     -- where none of its workers ended by its book, none of its labors did
-    none_by_book : NoneByBook pass_seen book_seen whole its → Each (λ (labor : Labor). is_by_book labor.end ≡ false) (crew_of whole its).labors
+    pub none_by_book : NoneByBook pass_seen book_seen whole its → Each (λ (labor : Labor). is_by_book labor.end ≡ false) (crew_of whole its).labors
     none_by_book none =
         let pairs = pairs_of (λ (labor : Labor). labor.end) (all_of whole) whole.run.workers whole.answer.ends.items whole.did.workers whole.did.ends in
         let each : Each (λ (labor : Labor). labor.worker.store ≡ its.hand.store → is_by_book labor.end ≡ false) (all_of whole) =

@@ -126,6 +126,12 @@ ended pass_seen book_seen plan run rules dids view last clock tally errors book 
 ended pass_seen book_seen plan run rules dids view last clock tally errors book (work_end.ErrorLimit seen) finished turns limit under shuts = (omega (arith, limit, finished.4), omega (arith, finished.3, under))
 ended pass_seen book_seen plan run rules dids view last clock tally errors book (work_end.Book fault) finished turns limit under shuts = shuts finished.2.1
 
+finished_few : (rules : Rules) (turns : ℕ) (dids : List Did) (view : View) (last : ℕ) (clock : ClockSeen) (end : WorkEnd) → Finished rules turns dids view last clock end → length dids ≤ turns
+finished_few rules turns dids view last clock work_end.TurnsMade finished = omega (arith, finished.0)
+finished_few rules turns dids view last clock (work_end.TimeUp time) finished = omega (arith, finished.0)
+finished_few rules turns dids view last clock (work_end.ErrorLimit seen) finished = omega (arith, finished.0)
+finished_few rules turns dids view last clock (work_end.Book fault) finished = finished.0
+
 -- Work didn't end by the time where the clock's last reading is before the end.
 not_timed : (rules : Rules) (turns : ℕ) (dids : List Did) (view : View) (last : ℕ) (clock : ClockSeen) (end : WorkEnd) → Finished rules turns dids view last clock end → clock.last < rules.end → (time : ℕ) → end ≡ work_end.TimeUp time → ⊥
 not_timed rules turns dids view last clock work_end.TurnsMade finished early time is = absurd (let so : work_end.TurnsMade ≡ work_end.TimeUp time = is in cc)
@@ -139,6 +145,10 @@ module _ (plan : Plan) (run : RunPlan) (store : StoreId) (start : ℕ) (clock : 
       let none : did.empty.numbers.turns ≡ 0 = ap (λ (n : Numbers). n.turns) did.is_empty.numbers in
       let all = turns_all (rules_of plan run labor.worker start).intervals store.geometry.block_size did.worked.0 did.empty in
       omega (arith, ap (λ (t : Tallied). t.numbers.turns) did.worked.3.tally, none, all)
+
+  -- No worker makes more turns than the run has.
+  pub few_turns : labor.tally.numbers.turns ≤ run.turns
+  few_turns = omega (arith, turns_are, finished_few (rules_of plan run labor.worker start) run.turns did.worked.0 labor.view (newest labor.answers) labor.clock labor.end did.worked.4)
 
   pub fits_none : Fitted made → labor.tally.numbers.corrupt ≡ 0
   fits_none fitted =
