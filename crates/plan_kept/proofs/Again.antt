@@ -1,7 +1,6 @@
 -- Runs over recovered journals, whose stores were verified.
-use Rattle.std.proofs.Common.{◌≡◌, ◌∙◌, refl, sym, ap, subst, arith, inl, inr, ◌⊎◌, ℕ, zero, suc, ◌+◌, ◌<◌, Bool, true, false, IsTrue, List, [], ◌∷◌, length, map}
-use Rattle.std.specs.Prelude.{◌≢◌, Some, slice_get}
-use Rattle.std.proofs.lemmas.Option.{none-some, same_Some}
+use Rattle.std.proofs.Common.{◌≡◌, ◌∙◌, refl, sym, ap, subst, arith, inl, inr, ◌⊎◌, ℕ, suc, ◌+◌, IsTrue, List, [], ◌∷◌, length, map}
+use Rattle.std.specs.Prelude.{◌≢◌, Some, count_by, slice_get}
 use Rattle.vd_outside.specs.Clocks.{ClockSeen}
 use Rattle.vd_arm.specs.Arm.{PassSeen}
 use Rattle.vd_disk.specs.Disk.{DiskSeen}
@@ -15,28 +14,22 @@ use Rattle.key_state.specs.Entries.{entry_at}
 use Rattle.key_state.specs.declared.entry.Entry.{Entry}
 use Rattle.key_state.specs.declared.seen.BookSeen.{BookSeen}
 use Rattle.slave_worker.specs.Hands.{HandSeen}
-use Rattle.journal_recover.specs.declared.fault.RecoverFault.{RecoverFault}
-use Rattle.journal_recover.specs.declared.fault.RecoverFault.TheVariants as refusal
 use Rattle.journal_recover.specs.declared.found.Recovered.{Recovered}
+use Rattle.recover_run.specs.Looks.{is_corrupt}
 use Rattle.recover_run.specs.declared.look.Look.{Look}
 use Rattle.run_report.specs.Says.{Printing}
 use Rattle.run_report.specs.declared.status.Status.{Status}
 use Rattle.run_report.specs.declared.status.Status.TheVariants as status
 use Rattle.run_totals.proofs.Lists.{get_map}
-use Rattle.still_plan.specs.Journals.{JournalStop, JournalsStop, RecoversTo, at_journal}
-use Rattle.still_plan.specs.Journals as journals
-use Rattle.still_plan.specs.Lines.{refusal_status}
+use Rattle.still_plan.specs.Journals.{RecoversTo}
 use Rattle.still_plan.specs.Stores.{all_looks, looks_status}
 use Rattle.plan_hands.specs.Stores.{AreStores}
-use Rattle.plan_journals.specs.Closing.{WentWell, after_closing}
+use Rattle.plan_journals.specs.Closing.{WentWell}
 use Rattle.plan_journals.specs.Open.{AreFrom, AreOpenedNow, AreStartsOf, Start}
 use Rattle.plan_journals.proofs.Books.{opened_from, paths_apart}
 use Rattle.plan_reopened.specs.Recovering.{AreRecovered}
-use Rattle.plan_reopened.specs.Reopening.{AllReopened, ReopenStop, next_starts}
-use Rattle.plan_reopened.specs.Reopening as reopening
-use Rattle.plan_runs.specs.Stages.{Stage, is_last, stage}
-use Rattle.plan_runs.specs.Statuses.{worse}
-use Rattle.plan_runs.proofs.Ended.{worse_either}
+use Rattle.plan_reopened.specs.Reopening.{AllReopened, next_starts}
+use Rattle.plan_runs.specs.Stages.{Stage, stage}
 use Rattle.plan_runs.proofs.Opened.{some_blocks}
 use Rattle.plan_verified.specs.Laws.{FitAsBefore, FitWhereAllRead}
 use Rattle.plan_verified.specs.Stores.{LeaveStores, StoreSeen, is_stop, settled_of}
@@ -50,98 +43,15 @@ use Rattle.plan_resumed.specs.Resumed as resumed
 use Rattle.plan_resumed.specs.Seating.{with_passes}
 use Rattle.plan_totals.specs.Made.{PlanRuns}
 use Rattle.plan_totals.specs.Sentences.{AllFit, DataFits, HandFits, TellsFit}
-use Rattle.plan_totals.proofs.Books.{last_worse}
+use Rattle.plan_kept.specs.Clean.{GoingFindsNone, ResumedFindsNone}
 use Rattle.plan_kept.specs.Fits.{FitsItsJournal, KeptFits}
 use Rattle.plan_kept.specs.Laws.{OldDataFits, OldIsSound}
 use Rattle.plan_kept.proofs.Fitting.{Laws, closing_not, kept_fits, memory_not, refusal_not, refusal_unwell, seat_there, told_on}
-use Rattle.plan_kept.proofs.Looks.{AllFound, looks_clean, none_of_all}
+use Rattle.plan_kept.proofs.Looks.{AllFound, looks_clean, none_of_all, verify_as}
 use Rattle.plan_kept.proofs.Seats.{SeatAt, are_starts, left_at, long_left, now_at, recovered_at, seat_at, seated_books}
 use Rattle.plan_kept.proofs.Settled.{settled_fit}
-
--- ---- which statuses are none of 0, 1 and 2
-refusal_not_well : (fault : RecoverFault) → WentWell (refusal_status fault) → ⊥
-refusal_not_well refusal.NoJournal well = well
-refusal_not_well (refusal.Mismatch found wanted) well = well
-refusal_not_well (refusal.Damaged sector what at) well = well
-refusal_not_well refusal.Failed well = well
-refusal_not_well refusal.NoMemory well = well
-
-journal_unwell : (old new : YardSeen) (store : StorePlan) (text : List ℕ) (result : Status) → JournalStop old new store text result → WentWell result → ⊥
-journal_unwell old new store text result (journals.unopened rose not is_text is) well = subst WentWell is well
-journal_unwell old new store text result (journals.unrecovered fault by is_text is) well = refusal_not_well fault (subst WentWell is well)
-journal_unwell old new store text result (journals.memory_out is_text is) well = subst WentWell is well
-journal_unwell old new store text result (journals.output_shut is_text is) well = subst WentWell is well
-journal_unwell old new store text result (journals.behind_line found recovers is_text (inl is)) well = subst WentWell is well
-journal_unwell old new store text result (journals.behind_line found recovers is_text (inr is)) well = subst WentWell is well
-
-pub journals_unwell : (old new : YardSeen) (stores : List StorePlan) (text : List ℕ) (result : Status) → JournalsStop old new stores text result → WentWell result → ⊥
-journals_unwell old new stores text result (at_journal n found store part all there stop others is_text) well = journal_unwell old new store part result stop well
-
-pub stop_unwell : (result : Status) → IsTrue (is_stop result) → WentWell result → ⊥
-stop_unwell status.Good stop well = (let so : false ≡ true = stop in cc)
-stop_unwell status.Corrupt stop well = (let so : false ≡ true = stop in cc)
-stop_unwell status.Device stop well = (let so : false ≡ true = stop in cc)
-stop_unwell status.EpochEnd stop well = well
-stop_unwell status.Parameter stop well = well
-stop_unwell status.Usage stop well = well
-stop_unwell status.Source stop well = well
-stop_unwell status.Sink stop well = well
-stop_unwell status.Journal stop well = well
-stop_unwell status.NoJournal stop well = well
-stop_unwell status.Damaged stop well = well
-stop_unwell status.Mismatch stop well = well
-stop_unwell status.Yard stop well = well
-stop_unwell status.NoMemory stop well = well
-
-pub reopen_unwell : (old new : YardSeen) (start : Start) (opens : ℕ) (text : List ℕ) (result : Status) → ReopenStop old new start opens text result → WentWell result → ⊥
-reopen_unwell old new start opens text result (reopening.last_is_over over keeps o is_text is) well = subst WentWell is well
-reopen_unwell old new start opens text result (reopening.not_reopened low rose o is_text is) well = subst WentWell is well
-reopen_unwell old new start opens text result (reopening.memory_out o is_text is) well = subst WentWell is well
-
-pub unwell_not : (this result : Status) → WentWell this → (WentWell result → ⊥) → result ≢ this
-unwell_not this result well unwell is = unwell (subst WentWell (sym is) well)
-
-well_goes_on : (result : Status) → WentWell result → is_last result ≡ false
-well_goes_on status.Good well = refl
-well_goes_on status.Corrupt well = refl
-well_goes_on status.Device well = refl
-well_goes_on status.EpochEnd well = absurd well
-well_goes_on status.Parameter well = absurd well
-well_goes_on status.Usage well = absurd well
-well_goes_on status.Source well = absurd well
-well_goes_on status.Sink well = absurd well
-well_goes_on status.Journal well = absurd well
-well_goes_on status.NoJournal well = absurd well
-well_goes_on status.Damaged well = absurd well
-well_goes_on status.Mismatch well = absurd well
-well_goes_on status.Yard well = absurd well
-well_goes_on status.NoMemory well = absurd well
-
-well_by : (result : Status) → is_last result ≡ false → WentWell result
-well_by status.Good not = tt
-well_by status.Corrupt not = tt
-well_by status.Device not = tt
-well_by status.EpochEnd not = absurd (let so : true ≡ false = not in cc)
-well_by status.Parameter not = absurd (let so : true ≡ false = not in cc)
-well_by status.Usage not = absurd (let so : true ≡ false = not in cc)
-well_by status.Source not = absurd (let so : true ≡ false = not in cc)
-well_by status.Sink not = absurd (let so : true ≡ false = not in cc)
-well_by status.Journal not = absurd (let so : true ≡ false = not in cc)
-well_by status.NoJournal not = absurd (let so : true ≡ false = not in cc)
-well_by status.Damaged not = absurd (let so : true ≡ false = not in cc)
-well_by status.Mismatch not = absurd (let so : true ≡ false = not in cc)
-well_by status.Yard not = absurd (let so : true ≡ false = not in cc)
-well_by status.NoMemory not = absurd (let so : true ≡ false = not in cc)
-
--- Where the worse of two statuses is one of 0, 1 and 2, the second is.
-pub well_after : (first rest : Status) → WentWell (worse first rest) → WentWell rest
-well_after first rest well = well_by rest (last_worse first rest (well_goes_on (worse first rest) well)).1
-
-pub worse_not : (this first rest : Status) → first ≢ this → rest ≢ this → worse first rest ≢ this
-worse_not this first rest one other e = elim (worse_either first rest) [
-  | inl is ↦ one (sym is ∙ e)
-  | inr is ↦ other (sym is ∙ e)
-]
+use Rattle.plan_kept.proofs.Unwell.{journals_unwell, reopen_unwell, stop_unwell, unwell_not, well_after, worse_not}
+use Rattle.plan_kept.proofs.Clean.{stores_clean}
 
 -- ---- what verification found and left
 found_by : (yard : YardSeen) (stores : List StorePlan) (disks : List DiskSeen) (found : List Recovered) → AreRecovered yard stores disks found
@@ -212,10 +122,10 @@ module _ {P B : Type 0} (pass_seen : P → PassSeen) (book_seen : B → BookSeen
         ) in
         subst (λ (h : HandSeen). HandFits verified.contents store h) (sym seat.is) here
 
-    looks_not : ((place : ℕ) (store : StorePlan) → slice_get plan.stores place ≡ Some store → FitsItsJournal before.yard store) → looks_status (all_looks seen) ≢ status.Corrupt
-    looks_not fit =
+    looks_none : ((place : ℕ) (store : StorePlan) → slice_get plan.stores place ≡ Some store → FitsItsJournal before.yard store) → count_by is_corrupt (all_looks seen) ≡ 0
+    looks_none fit =
         let all = found_by before.yard plan.stores have.disks found have.each fit in
-        looks_clean (all_looks seen) (none_of_all recovered verified plan.stores found seen left tells_recovered looked.each (moved before.yard recovered plan.stores found have.leaves.contents have.same have.leaves.tells all))
+        none_of_all recovered verified plan.stores found seen tells_recovered (verify_as recovered verified plan.stores found seen left looked.each) (moved before.yard recovered plan.stores found have.leaves.contents have.same have.leaves.tells all)
 
     module _ (starts : List Start) (is : starts ≡ next_starts plan.stores found (map settled_of left)) (clock : ClockSeen) (after : Stage) (text : List ℕ) (result : Status) where
       abbrev pub Went : Type 0
@@ -232,6 +142,16 @@ module _ {P B : Type 0} (pass_seen : P → PassSeen) (book_seen : B → BookSeen
           let all : PlanRuns pass_seen book_seen = record { plan = plan; before = stage (with_passes left books) verified clock 0 printed; last = closed.last; text = closed.runs_text; result = closed.work; valid = valid; stores = stores; runs = closed.made } in
           let fits : AllFit pass_seen book_seen all = λ its. again_fits starts books is (opened_now books printed opens) its.place its.store its.hand its.its_store its.went_in (inl (fit its.place its.store its.its_store)) in
           (laws.clean all tells_verified fits).1)
+
+      goes_none : ((place : ℕ) (store : StorePlan) → slice_get plan.stores place ≡ Some store → FitsItsJournal before.yard store)
+          → (went : Went) → GoingFindsNone pass_seen book_seen plan have.disks starts left (stage [] verified clock 0 told) after text result went
+      goes_none fit (going.went_on books printed opens on stores rest closed texts) =
+          let all : PlanRuns pass_seen book_seen = record { plan = plan; before = stage (with_passes left books) verified clock 0 printed; last = closed.last; text = closed.runs_text; result = closed.work; valid = valid; stores = stores; runs = closed.made } in
+          let fits : AllFit pass_seen book_seen all = λ its. again_fits starts books is (opened_now books printed opens) its.place its.store its.hand its.its_store its.went_in (inl (fit its.place its.store its.its_store)) in
+          (laws.clean all tells_verified fits).0
+      goes_none fit (going.unseated books printed opens on unused clock_is texts memory) = tt
+      goes_none fit (going.stopped books opened printed why stops on leaves same unused clock_is texts ends) = tt
+      goes_none fit (going.not_begun given clock_is texts memory) = tt
 
       goes_fits : ClosedRecovers → Went → WentWell result → IsTrue before.yard.tells.keeps_disks → (place : ℕ) (store : StorePlan) → slice_get plan.stores place ≡ Some store
           → FitsItsJournal before.yard store ⊎ IsTrue (before.yard.tells.sure AtArm store.path) → KeptFits after.yard store
@@ -253,13 +173,16 @@ module _ {P B : Type 0} (pass_seen : P → PassSeen) (book_seen : B → BookSeen
 module _ {P B : Type 0} (pass_seen : P → PassSeen) (book_seen : B → BookSeen) (laws : Laws pass_seen book_seen) (readable : FitWhereAllRead) (before_law : FitAsBefore) where
   sound_by : (plan : Plan) (before after : Stage) (starts : List Start) (text : List ℕ) (result : Status) → IsPlan plan → IsTrue before.yard.tells.keeps_contents
       → ((place : ℕ) (store : StorePlan) → slice_get plan.stores place ≡ Some store → FitsItsJournal before.yard store)
-      → RunsResumed pass_seen book_seen plan before after starts text result → result ≢ status.Corrupt
-  sound_by plan before after starts text result valid tells fit (resumed.not_recovered stop leaves stay clock none) = unwell_not status.Corrupt result tt (journals_unwell before.yard after.yard plan.stores text result stop)
-  sound_by plan before after starts text result valid tells fit (resumed.not_verified found recovered said have verified rest ends stop blocks same leaves disks clock none texts) = unwell_not status.Corrupt result tt (stop_unwell result stop)
+      → (does : RunsResumed pass_seen book_seen plan before after starts text result) → ResumedFindsNone pass_seen book_seen plan before after starts text result does × (result ≢ status.Corrupt)
+  sound_by plan before after starts text result valid tells fit (resumed.not_recovered stop leaves stay clock none) = (tt, unwell_not status.Corrupt result tt (journals_unwell before.yard after.yard plan.stores text result stop))
+  sound_by plan before after starts text result valid tells fit (resumed.not_verified found recovered said have verified rest ends stop blocks same leaves disks clock none texts) =
+      let all = moved before.yard recovered plan.stores found have.leaves.contents have.same have.leaves.tells (found_by before.yard plan.stores have.disks found have.each fit) in
+      stores_clean recovered verified (told_on before.yard.tells recovered.tells have.leaves.tells tells) plan.stores found rest result all ends
   sound_by plan before after starts text result valid tells fit (resumed.resumed found recovered said have unfailed seen left verified told looked from rest after_that goes texts is) =
-      let looks = looks_not pass_seen book_seen laws readable before_law plan valid before found recovered said have seen left verified told looked tells fit in
+      let none = looks_none pass_seen book_seen laws readable before_law plan valid before found recovered said have seen left verified told looked tells fit in
       let runs = goes_clean pass_seen book_seen laws readable before_law plan valid before found recovered said have seen left verified told looked tells starts from before.clock after rest after_that fit goes in
-      subst (λ (s : Status). s ≢ status.Corrupt) (sym is) (worse_not status.Corrupt (looks_status (all_looks seen)) after_that looks runs)
+      let in_runs = goes_none pass_seen book_seen laws readable before_law plan valid before found recovered said have seen left verified told looked tells starts from before.clock after rest after_that fit goes in
+      ((none, in_runs), subst (λ (s : Status). s ≢ status.Corrupt) (sym is) (worse_not status.Corrupt (looks_status (all_looks seen)) after_that (looks_clean (all_looks seen) none) runs))
 
   pub old_is_sound : OldIsSound pass_seen book_seen
   old_is_sound plan before after result valid tells fit went = sound_by plan before after went.starts went.text result valid tells fit went.does

@@ -1,14 +1,12 @@
 -- Runs without journals, and over new ones: none of their blocks counts as written at first, so whatever is kept fits.
-use Rattle.std.proofs.Common.{◌≡◌, ◌∙◌, refl, sym, ap, subst, ℕ, zero, suc, ◌+◌, ◌<◌, IsTrue, List, [], ◌∷◌, length, map, replicate}
-use Rattle.std.specs.Prelude.{◌≢◌, None, Option, Some, slice_get}
+use Rattle.std.proofs.Common.{◌≡◌, ◌∙◌, refl, sym, ap, subst, ℕ, zero, suc, ◌+◌, IsTrue, List, [], ◌∷◌, length, map, replicate}
+use Rattle.std.specs.Prelude.{◌≢◌, Some, slice_get}
 use Rattle.std.specs.List.{range_with_len, zip}
 use Rattle.std.proofs.lemmas.List.{get_or-replicate}
 use Rattle.std.proofs.lemmas.Option.{none-some, same_Some}
 use Rattle.vd_arm.specs.Arm.{PassSeen}
-use Rattle.vd_disk.specs.Disk.{DiskSeen}
 use Rattle.vd_yard.specs.Kept.{Kept}
 use Rattle.vd_yard.specs.Yard.{Tells, YardSeen}
-use Rattle.plan_types.specs.declared.plan.Plan.{Plan}
 use Rattle.plan_types.specs.declared.store.StorePlan.{StorePlan}
 use Rattle.key_state.specs.Entries.{entry_at}
 use Rattle.key_state.specs.declared.entry.Entry.{Entry}
@@ -20,29 +18,27 @@ use Rattle.run_report.specs.declared.status.Status.TheVariants as status
 use Rattle.run_totals.specs.Sentences.{ArmsAreSure}
 use Rattle.plan_hands.specs.Stores.{AreStores, book_of, passes_of, with_books}
 use Rattle.plan_journals.specs.Closing.{WentWell}
-use Rattle.plan_journals.specs.Growth.{AreKeptClosed}
-use Rattle.plan_journals.specs.Open.{AreFrom, AreMade, AreStartsOf, Start, new_starts}
+use Rattle.plan_journals.specs.Open.{AreMade, AreStartsOf, new_starts}
 use Rattle.plan_journals.specs.Opening.{OpenStop}
 use Rattle.plan_journals.specs.Opening as opening
 use Rattle.plan_journals.proofs.Books.{made_from, paths_apart}
 use Rattle.plan_journaled.specs.Journaled as journaled
 use Rattle.plan_journaled.specs.Laws.{ClosedRecovers}
-use Rattle.plan_journaled.specs.Over.{books_of}
 use Rattle.plan_journaled.proofs.Anew.{are_seated, from_anew}
 use Rattle.plan_runs.specs.Quiet as quietly
 use Rattle.plan_runs.specs.Quiet.{unwritten}
-use Rattle.plan_runs.specs.Stages.{Stage, stage}
+use Rattle.plan_runs.specs.Stages.{stage}
 use Rattle.plan_runs.proofs.Quieted as quieted
 use Rattle.plan_totals.specs.Made.{PlanRuns}
 use Rattle.plan_totals.specs.Sentences.{AllFit, HandFits, UnwrittenFit, UnwrittenPlansFit}
 use Rattle.plan_kept.specs.Laws.{NewDataFits, NewIsSound, NewIsSure, QuietIsSound, QuietIsSure}
 use Rattle.plan_kept.proofs.Fitting.{Laws, closing_not, kept_fits, memory_not, refusal_not, refusal_unwell, seat_there, sure_on, told_on}
 
-abbrev seated : ℕ → List BookSeen → List HandSeen
+abbrev pub seated : ℕ → List BookSeen → List HandSeen
 seated a books = map (λ (one : ℕ × BookSeen). (one.0, [], one.1)) (zip (range_with_len a (length books)) books)
 
 -- A hand of books alone has no open passes, and the book of its place.
-hand_at : (a : ℕ) (books : List BookSeen) (i : ℕ) (hand : HandSeen) → slice_get (seated a books) i ≡ Some hand → (passes_of hand ≡ []) × (slice_get books i ≡ Some (book_of hand))
+pub hand_at : (a : ℕ) (books : List BookSeen) (i : ℕ) (hand : HandSeen) → slice_get (seated a books) i ≡ Some hand → (passes_of hand ≡ []) × (slice_get books i ≡ Some (book_of hand))
 hand_at a [] i hand is = absurd (none-some hand is)
 hand_at a (b ∷ books) zero hand is =
     let same : (a, [], b) ≡ hand = same_Some (a, [], b) hand is in
@@ -85,8 +81,8 @@ module _ {P B : Type 0} (pass_seen : P → PassSeen) (book_seen : B → BookSeen
   quiet_is_sound fit plan before after text result valid tells (quietly.all_made last runs hands back clock printing) =
       let stores : AreStores plan before.hands = subst (λ (l : List HandSeen). AreStores plan l) (sym hands) (quieted.are_seated plan) in
       let all : PlanRuns pass_seen book_seen = record { plan = plan; before = before; last = last; text = text; result = result; valid = valid; stores = stores; runs = runs } in
-      (laws.clean all tells (fit all hands)).1
-  quiet_is_sound fit plan before after text result valid tells (quietly.none_made yard clock printing none memory) = memory_not status.Corrupt result tt memory
+      laws.clean all tells (fit all hands)
+  quiet_is_sound fit plan before after text result valid tells (quietly.none_made yard clock printing none memory) = (tt, memory_not status.Corrupt result tt memory)
 
   pub new_is_sound : NewIsSound pass_seen book_seen
   new_is_sound plan before after text result valid tells (journaled.ran books opened said all_open rest closed texts) =
@@ -95,11 +91,12 @@ module _ {P B : Type 0} (pass_seen : P → PassSeen) (book_seen : B → BookSeen
       let stores : AreStores plan (with_books books) = are_seated plan before.yard logs books (ap length all_open.opens.books ∙ all_open.opens.one_each) are in
       let all : PlanRuns pass_seen book_seen = record { plan = plan; before = stage (with_books books) opened before.clock 0 said; last = closed.last; text = closed.runs_text; result = closed.work; valid = valid; stores = stores; runs = closed.made } in
       let fit : AllFit pass_seen book_seen all = λ its. new_fits laws.unwritten opened.contents before.yard logs plan.stores books are its.place its.store its.hand its.its_store its.went_in in
-      subst (λ (s : Status). s ≢ status.Corrupt) (sym closed.is) (closing_not status.Corrupt closed.work closed.closing tt closed.answers (laws.clean all (told_on before.yard.tells opened.tells all_open.leaves.tells tells) fit).1)
-  new_is_sound plan before after text result valid tells (journaled.unseated books opened said all_open unused clock texts memory) = memory_not status.Corrupt result tt memory
+      let clean = laws.clean all (told_on before.yard.tells opened.tells all_open.leaves.tells tells) fit in
+      (clean.0, subst (λ (s : Status). s ≢ status.Corrupt) (sym closed.is) (closing_not status.Corrupt closed.work closed.closing tt closed.answers clean.1))
+  new_is_sound plan before after text result valid tells (journaled.unseated books opened said all_open unused clock texts memory) = (tt, memory_not status.Corrupt result tt memory)
   new_is_sound plan before after text result valid tells (journaled.stopped books opened said why stops leaves unused clock texts is) =
       let not = λ (e : why ≡ status.Corrupt). stop_unwell _ _ _ _ _ why stops.stop (subst WentWell (sym e) tt) in
-      subst (λ (s : Status). s ≢ status.Corrupt) (sym is) (refusal_not status.Corrupt why unused.closing tt unused.answers not)
+      (tt, subst (λ (s : Status). s ≢ status.Corrupt) (sym is) (refusal_not status.Corrupt why unused.closing tt unused.answers not))
 
   -- ---- over sure arms
   pub quiet_is_sure : QuietIsSure pass_seen book_seen

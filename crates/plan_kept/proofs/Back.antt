@@ -1,6 +1,6 @@
 -- What is kept of each store once the open passes of all hands went back.
-use Rattle.std.proofs.Common.{◌≡◌, ◌∙◌, refl, sym, ap, subst, arith, inl, inr, ℕ, zero, suc, ◌+◌, ◌<◌, true, IsTrue, List, [], ◌∷◌, length, map}
-use Rattle.std.specs.Prelude.{Option, Some, None, slice_get, unwrap_or}
+use Rattle.std.proofs.Common.{◌≡◌, ◌∙◌, refl, sym, ap, subst, arith, inl, inr, ℕ, zero, suc, true, List, [], ◌∷◌, length}
+use Rattle.std.specs.Prelude.{Option, Some, slice_get, unwrap_or}
 use Rattle.std.specs.List.{range_with_len}
 use Rattle.std.proofs.lemmas.Option.{none-some, same_Some}
 use Rattle.vd_arm.specs.Arm.{PassSeen}
@@ -12,7 +12,6 @@ use Rattle.plan_types.specs.declared.plan.Plan.{Plan}
 use Rattle.plan_types.specs.declared.store.StorePlan.{StorePlan}
 use Rattle.key_state.specs.Entries.{entry_at}
 use Rattle.block_verdict.specs.Fits.{BytesFit}
-use Rattle.claim_table.specs.Passes.{ArePasses}
 use Rattle.claim_table.specs.Sums.{Each}
 use Rattle.slave_worker.specs.Hands.{HandSeen}
 use Rattle.run_totals.proofs.Lists.{all_at, all_from, each_of_all, get_map}

@@ -1,6 +1,6 @@
 -- Which statuses a command over a plan's runs ends with.
-use Rattle.std.proofs.Common.{◌≡◌, ◌∙◌, refl, sym, ap, subst, inl, inr, ◌⊎◌, ℕ, ◌==◌, Bool, true, false, IsTrue, List, [], ◌∷◌}
-use Rattle.std.specs.Prelude.{◌≢◌, Err, Ok, Some, count_by, if◌then◌else◌, slice_get}
+use Rattle.std.proofs.Common.{◌≡◌, ◌∙◌, refl, sym, ap, inl, inr, ℕ, ◌==◌, Bool, true, false, IsTrue, List}
+use Rattle.std.specs.Prelude.{Err, Ok, Some, count_by, if◌then◌else◌, slice_get}
 use Rattle.vd_arm.specs.Arm.{PassSeen}
 use Rattle.vd_base.specs.declared.geometry.StoreId.{StoreId}
 use Rattle.vd_disk.specs.Disk.{DiskSeen}
@@ -8,7 +8,7 @@ use Rattle.vd_yard.specs.Yard.{YardSeen}
 use Rattle.plan_types.specs.declared.plan.Plan.{Plan}
 use Rattle.plan_types.specs.declared.store.StorePlan.{StorePlan}
 use Rattle.key_state.specs.declared.seen.BookSeen.{BookSeen}
-use Rattle.journal_layout.specs.Recovery.{Damaged, GivesOnce, Mismatch, NoJournal, Outcome, Recovers, Sectors}
+use Rattle.journal_layout.specs.Recovery.{Damaged, GivesOnce, Mismatch, NoJournal, Recovers, Sectors}
 use Rattle.journal_recover.specs.Answers.{Answers}
 use Rattle.journal_recover.specs.declared.fault.RecoverFault.{RecoverFault}
 use Rattle.journal_recover.specs.declared.fault.RecoverFault.TheVariants as refusal
@@ -27,7 +27,7 @@ use Rattle.plan_journals.specs.Opening as opening
 use Rattle.plan_reopened.specs.Reopening.{ReopenStop}
 use Rattle.plan_reopened.specs.Reopening as reopening
 use Rattle.plan_runs.specs.Quiet as quietly
-use Rattle.plan_runs.specs.Stages.{Stage, stage}
+use Rattle.plan_runs.specs.Stages.{Stage}
 use Rattle.plan_runs.proofs.Ended.{of_runs, worse_has}
 use Rattle.plan_verified.specs.Stores.{StoreSeen, is_stop}
 use Rattle.plan_journaled.specs.Journaled as journaled

@@ -4,7 +4,10 @@ pub mod Seats
 pub mod Settled
 pub mod Looks
 pub mod Fitting
+pub mod Unwell
+pub mod Clean
 pub mod Anew
 pub mod Again
+pub mod Counts
 pub mod Sure
 pub mod Ends

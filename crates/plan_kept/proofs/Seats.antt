@@ -13,7 +13,7 @@ use Rattle.recover_run.specs.declared.look.Look.{Look}
 use Rattle.still_plan.specs.Journals.{RecoversTo}
 use Rattle.plan_journals.specs.Open.{AreOpenedNow, AreStartsOf, Start}
 use Rattle.plan_reopened.specs.Recovering.{AreRecovered}
-use Rattle.plan_reopened.specs.Reopening.{next_start, next_starts}
+use Rattle.plan_reopened.specs.Reopening.{next_starts}
 use Rattle.plan_verified.specs.Stores.{LeavesStore, LeaveStores, StoreSeen, passes_of, settled_of}
 use Rattle.plan_journaled.specs.Over.{books_of}
 use Rattle.plan_resumed.specs.Seating.{seated_from}

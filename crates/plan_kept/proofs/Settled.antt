@@ -1,5 +1,5 @@
 -- What the passes of a verified store tell fits the entries that are left.
-use Rattle.std.proofs.Common.{◌≡◌, ◌∙◌, refl, sym, ap, subst, arith, inl, inr, ◌⊎◌, ℕ, zero, suc, ◌<◌, IsTrue, List, [], ◌∷◌, length}
+use Rattle.std.proofs.Common.{◌≡◌, ◌∙◌, refl, sym, subst, arith, inl, inr, ◌⊎◌, ℕ, suc, ◌<◌, IsTrue, List, [], ◌∷◌, length}
 use Rattle.std.specs.Prelude.{Option, Some, slice_get}
 use Rattle.std.specs.List.{AllZip}
 use Rattle.std.proofs.lemmas.Option.{get_or_from_slice_get, same_Some, slice_get_cases, slice_get_within}
@@ -17,6 +17,7 @@ use Rattle.block_verdict.specs.Fits.{BytesFit}
 use Rattle.journal_recover.specs.declared.found.Recovered.{Recovered}
 use Rattle.recover_run.specs.declared.look.Look.{Look}
 use Rattle.still_plan.specs.Journals.{RecoversTo}
+use Rattle.still_store.specs.Verification.{ArePassesOf}
 use Rattle.plan_verified.specs.Laws.{FitAsBefore, FitWhereAllRead}
 use Rattle.plan_verified.specs.Stores.{FitsTold, FitWhereRead, LeavesStore, StoreSeen, passes_of, settled_of}
 use Rattle.plan_totals.specs.Sentences.{DataFits, TellsFit}
@@ -34,17 +35,22 @@ told_fits id pass block known held told bytes its entry same fit =
     subst (λ (l : List ℕ). BytesFit id pass.block known l) same
     (subst (λ (e : Entry). BytesFit id pass.block e told) entry (subst (λ (b : ℕ). BytesFit id b held told) (sym its) fit))
 
-module _ (old new : YardSeen) (store : StorePlan) (here : Recovered) (looks : List Look) (left : StoreSeen) (leaves : LeavesStore old new store here looks left) (tells : IsTrue old.tells.keeps_contents) where
-  -- a block of what is kept
-  abbrev kept_block : ℕ → List ℕ
-  kept_block block = file_block store.id.geometry.block_size block (bytes_at old.contents store.path)
+-- a block of what is kept
+abbrev pub kept_block : YardSeen → StorePlan → ℕ → List ℕ
+kept_block yard store block = file_block store.id.geometry.block_size block (bytes_at yard.contents store.path)
 
-  pub fit_found : RecoversTo old store here → DataFits old.contents store here.entries.items → AllZip (FitsTold store.id) (passes_of left) here.entries.items
-  fit_found recovers fit =
-      zip_of (FitsTold store.id) (passes_of left) here.entries.items (recovers.fit.one_each ∙ sym leaves.theirs.blocks.as_many) (λ i pass known at there bytes told.
-      let within : i < store.id.geometry.blocks = omega (arith, slice_get_within (passes_of left) i pass at, leaves.theirs.blocks.as_many) in
-      told_fits store.id pass i known (entry_at here.entries.items i) (kept_block i) bytes (leaves.theirs.blocks.blocks i pass at) (get_or_from_slice_get here.entries.items i known Bad there)
-      (same_Some (kept_block i) bytes (sym (leaves.theirs.told tells i pass at) ∙ told)) (fit i within))
+-- Where the bytes of a store fit what its journal gave, so does what its passes tell.
+pub fit_passes : (old : YardSeen) (store : StorePlan) (here : Recovered) (passes : List PassSeen) → ArePassesOf old store passes → IsTrue old.tells.keeps_contents
+    → RecoversTo old store here → DataFits old.contents store here.entries.items → AllZip (FitsTold store.id) passes here.entries.items
+fit_passes old store here passes theirs tells recovers fit =
+    zip_of (FitsTold store.id) passes here.entries.items (recovers.fit.one_each ∙ sym theirs.blocks.as_many) (λ i pass known at there bytes told.
+    let within : i < store.id.geometry.blocks = omega (arith, slice_get_within passes i pass at, theirs.blocks.as_many) in
+    told_fits store.id pass i known (entry_at here.entries.items i) (kept_block old store i) bytes (theirs.blocks.blocks i pass at) (get_or_from_slice_get here.entries.items i known Bad there)
+    (same_Some (kept_block old store i) bytes (sym (theirs.told tells i pass at) ∙ told)) (fit i within))
+
+module _ (old new : YardSeen) (store : StorePlan) (here : Recovered) (looks : List Look) (left : StoreSeen) (leaves : LeavesStore old new store here looks left) (tells : IsTrue old.tells.keeps_contents) where
+  fit_found : RecoversTo old store here → DataFits old.contents store here.entries.items → AllZip (FitsTold store.id) (passes_of left) here.entries.items
+  fit_found recovers fit = fit_passes old store here (passes_of left) leaves.theirs tells recovers fit
 
   all_settled : FitWhereAllRead → FitAsBefore → (RecoversTo old store here × DataFits old.contents store here.entries.items) ⊎ IsTrue (old.tells.sure AtArm store.path) → AllZip (FitsTold store.id) (passes_of left) (settled_of left)
   all_settled readable before (inl fit) =
@@ -57,13 +63,13 @@ module _ (old new : YardSeen) (store : StorePlan) (here : Recovered) (looks : Li
       → (block : ℕ) (pass : PassSeen) → slice_get (passes_of left) block ≡ Some pass → TellsFit store.id block (entry_at (settled_of left) block) pass.told
   settled_fit readable before fit block pass at =
       let within = slice_get_within (passes_of left) block pass at in
-      let told : pass.told ≡ Some (kept_block block) = leaves.theirs.told tells block pass at in
-      let fits : BytesFit store.id block (entry_at (settled_of left) block) (kept_block block) = elim ((slice_get_cases (settled_of left) block).1) [
+      let told : pass.told ≡ Some (kept_block old store block) = leaves.theirs.told tells block pass at in
+      let fits : BytesFit store.id block (entry_at (settled_of left) block) (kept_block old store block) = elim ((slice_get_cases (settled_of left) block).1) [
         | inl found ↦
             let is : entry_at (settled_of left) block ≡ found.0 = get_or_from_slice_get (settled_of left) block found.0 Bad found.2 in
             let one = zip_at (FitsTold store.id) (passes_of left) (settled_of left) block pass found.0 (all_settled readable before fit) at found.2 in
-            subst (λ (e : Entry). BytesFit store.id block e (kept_block block)) (sym is)
-            (subst (λ (b : ℕ). BytesFit store.id b found.0 (kept_block block)) (leaves.theirs.blocks.blocks block pass at) (one (kept_block block) told))
+            subst (λ (e : Entry). BytesFit store.id block e (kept_block old store block)) (sym is)
+            (subst (λ (b : ℕ). BytesFit store.id b found.0 (kept_block old store block)) (leaves.theirs.blocks.blocks block pass at) (one (kept_block old store block) told))
         | inr past ↦ absurd (omega (arith, within, past.0, leaves.one_each, leaves.theirs.blocks.as_many))
       ] in
       subst (λ (o : Option (List ℕ)). TellsFit store.id block (entry_at (settled_of left) block) o) (sym told)

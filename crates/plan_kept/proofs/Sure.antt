@@ -1,9 +1,8 @@
 -- Runs over recovered journals, where all arms are sure, and where each journal is valid.
-use Rattle.std.proofs.Common.{◌≡◌, ◌∙◌, refl, sym, ap, subst, arith, inl, inr, ℕ, suc, ◌+◌, ◌==◌, Bool, true, false, IsTrue, List, [], ◌∷◌, ◌++◌}
-use Rattle.std.specs.Prelude.{◌≢◌, Err, Ok, Some, count_by, if◌then◌else◌, slice_get, take}
+use Rattle.std.proofs.Common.{◌≡◌, ◌∙◌, refl, sym, ap, subst, arith, ℕ, suc, ◌==◌, Bool, true, false, List, [], ◌∷◌}
+use Rattle.std.specs.Prelude.{◌≢◌, count_by, if◌then◌else◌}
 use Rattle.vd_arm.specs.Arm.{PassSeen}
-use Rattle.vd_yard.specs.Out.{AtArm}
-use Rattle.vd_yard.specs.Yard.{Tells, YardSeen}
+use Rattle.vd_yard.specs.Yard.{YardSeen}
 use Rattle.plan_types.specs.Valid.{IsPlan}
 use Rattle.plan_types.specs.declared.plan.Plan.{Plan}
 use Rattle.plan_types.specs.declared.store.StorePlan.{StorePlan}
@@ -16,7 +15,6 @@ use Rattle.run_report.specs.declared.status.Status.{Status}
 use Rattle.run_report.specs.declared.status.Status.TheVariants as status
 use Rattle.run_totals.specs.Sentences.{ArmsAreSure}
 use Rattle.still_plan.specs.Stores.{all_looks, looks_status}
-use Rattle.plan_journals.specs.Closing.{WentWell}
 use Rattle.plan_journals.specs.Open.{Start}
 use Rattle.plan_runs.specs.Stages.{Stage, stage}
 use Rattle.plan_verified.specs.Laws.{FitAsBefore, FitWhereAllRead}
@@ -26,7 +24,8 @@ use Rattle.plan_resumed.specs.Resumed as resumed
 use Rattle.plan_resumed.specs.Seating.{with_passes}
 use Rattle.plan_totals.specs.Made.{PlanRuns}
 use Rattle.plan_kept.specs.Laws.{OldIsSure}
-use Rattle.plan_kept.proofs.Again.{goes_not, journals_unwell, stop_unwell, unwell_not, worse_not}
+use Rattle.plan_kept.proofs.Again.{goes_not}
+use Rattle.plan_kept.proofs.Unwell.{journals_unwell, stop_unwell, unwell_not, worse_not}
 use Rattle.plan_kept.proofs.Fitting.{Laws, sure_on}
 
 -- Sure arms leave no block unread.

@@ -1,2 +1,4 @@
 pub mod Fits
+pub mod Counts
+pub mod Clean
 pub mod Laws

@@ -1,5 +1,5 @@
 // Data that fits its journals.
-ghost use Rattle.plan_kept.specs.Laws.{NewDataFits, NewEnds, NewIsSound, NewIsSure, OldDataFits, OldEnds, OldIsSound, OldIsSure, QuietEnds, QuietIsSound, QuietIsSure, ValidAreRecovered};
+ghost use Rattle.plan_kept.specs.Laws.{NewDataFits, NewEnds, NewIsSound, NewIsSure, NewJournalsCount, OldDataFits, OldEnds, OldIsSound, OldIsSure, OldJournalsCount, QuietEnds, QuietIsSound, QuietIsSure, StillIsSound, ValidAreRecovered};
 
 use journal_layout::gives_once;
 use key_state::Book;
@@ -8,12 +8,13 @@ use plan_totals::runs_add_up;
 use plan_verified::verified_laws;
 use vd_arm::Pass;
 
-/// Where the yard tells the data that it keeps, no command ends by the status of a corrupt block over bytes that fit: whatever they are where
-/// no block counts as written, and, over journals that are recovered, where they fit what these give. It does nothing.
+/// Where the yard tells the data that it keeps, no command has a line of a corrupt block, or ends by its status, over bytes that fit:
+/// whatever they are where no block counts as written, and, over journals that are recovered, where they fit what these give. It does nothing.
 pub fn sound_laws<P: Pass, B: Book>()
     ensures quiet { QuietIsSound P.seen B.seen }
     ensures anew { NewIsSound P.seen B.seen }
     ensures again { OldIsSound P.seen B.seen }
+    ensures still { StillIsSound }
 {
     runs_add_up::<P, B>();
     verified_laws();
@@ -44,5 +45,16 @@ pub fn kept_laws<P: Pass, B: Book>()
 {
     runs_add_up::<P, B>();
     verified_laws();
+    journaled_laws();
+}
+
+/// What is stored in each closed journal with a status of 0, 1 or 2, where the yard tells the disks that it keeps: each image that a stop may
+/// leave of it, where it is in the epoch in which the journal was made or opened, has as many ends as the total lines of its store have
+/// writes, modulo 2^64. It does nothing.
+pub fn count_laws<P: Pass, B: Book>()
+    ensures anew { NewJournalsCount P.seen B.seen }
+    ensures again { OldJournalsCount P.seen B.seen }
+{
+    runs_add_up::<P, B>();
     journaled_laws();
 }

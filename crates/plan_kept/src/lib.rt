@@ -7,4 +7,4 @@
 
 mod laws;
 
-pub use laws::{ending_laws, kept_laws, sound_laws};
+pub use laws::{count_laws, ending_laws, kept_laws, sound_laws};

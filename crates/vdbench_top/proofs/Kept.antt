@@ -40,7 +40,7 @@ use Rattle.vdbench_top.proofs.Runs.{no_plan_bad, no_plan_status}
 disks_on : (a b : YardSeen) → OnlyReads a b → IsTrue a.tells.keeps_disks → IsTrue b.tells.keeps_disks
 disks_on a b reads told = subst (λ (t : Tells). IsTrue t.keeps_disks) (sym reads.keeps.tells) told
 
-fits_on : (a b : YardSeen) (store : StorePlan) → OnlyReads a b → FitsItsJournal a store → FitsItsJournal b store
+pub fits_on : (a b : YardSeen) (store : StorePlan) → OnlyReads a b → FitsItsJournal a store → FitsItsJournal b store
 fits_on a b store reads fits found recovers =
     subst (λ (k : Kept (List ℕ)). DataFits k store found.entries.items) (sym reads.untouched.unopened.contents)
     (fits found (moved_one b a store found (sym reads.untouched.disks) (sym reads.keeps.tells) recovers))
@@ -78,24 +78,6 @@ module _ {P B : Type 0} (pass_seen : P → PassSeen) (book_seen : B → BookSeen
     pub anew_sure : NewIsSure pass_seen book_seen
     pub again_sure : OldIsSure pass_seen book_seen
     pub valid : ValidAreRecovered pass_seen book_seen
-
-  -- ---- no corrupt block
-  file_sound : Sound → (before after : Stage) (asks : Asked) (text : List ℕ) (result : Status) → IsTrue before.yard.tells.keeps_contents → DataFitsJournals before.yard asks
-      → RunsFile pass_seen book_seen before after asks text result → result ≢ status.Corrupt
-  file_sound laws before after asks text result told fits (no_plan reads none clock says) = no_plan_status before.yard after.yard asks.file text result status.Corrupt none (λ e. cc) (λ e. cc) (λ e. cc) (λ e. cc)
-  file_sound laws before after asks text result told fits (ran plan kept is valid read reads runs) =
-      laws.quiet (rereading asks.again plan) (stage (with_books (map unwritten plan.stores)) read before.clock 0 before.printing) after text result valid (told_on before.yard.tells read.tells reads.keeps.tells told) runs
-  file_sound laws before after asks text result told fits (ran_journaled plan kept is valid read reads runs says keeps) =
-      laws.anew (rereading asks.again plan) (stage [] read before.clock 0 before.printing) after text result valid (told_on before.yard.tells read.tells reads.keeps.tells told) runs
-  file_sound laws before after asks text result told fits (ran_resumed plan kept is valid read reads went same uses) =
-      laws.again (rereading asks.again plan) (stage [] read before.clock 0 before.printing) after result valid (told_on before.yard.tells read.tells reads.keeps.tells told)
-      (λ place store at. fits_on before.yard read store reads (fits kept plan is place store at)) went
-
-  pub call_sound : Sound → (a c : YardSeen) (k l : ClockSeen) (taken now : Option (List ℕ)) (m n : ℕ) (asks : Asked) (result : Status) → IsTrue a.tells.keeps_contents → DataFitsJournals a asks
-      → RunCall pass_seen book_seen a c k l taken now m n asks result → result ≢ status.Corrupt
-  call_sound laws a c k l taken now m n asks result told fits call e =
-      let heard : result ≢ status.Sink = λ f. (let g : status.Corrupt ≡ status.Sink = sym e ∙ f in cc) in
-      file_sound laws (stage [] a k 0 (printing false taken m)) (stage [] c l 0 call.last) asks call.text call.said told fits call.runs (sym (call.ends.printed_all heard).0 ∙ e)
 
   -- ---- what is kept fits
   file_keeps : Fitting → (before after : Stage) (asks : Asked) (text : List ℕ) (result : Status) → RunsFile pass_seen book_seen before after asks text result → KeepsFitting before.yard after.yard asks result

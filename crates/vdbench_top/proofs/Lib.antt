@@ -7,3 +7,4 @@ pub mod Statuses
 pub mod Runs
 pub mod Sums
 pub mod Kept
+pub mod Clean

@@ -6,3 +6,5 @@ pub mod Calls
 pub mod Runs
 pub mod Sums
 pub mod Kept
+pub mod Clean
+pub mod Headline

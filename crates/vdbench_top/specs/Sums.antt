@@ -1,5 +1,5 @@
 -- What the runs of a command add up to, with its text and errors, its stores' books, and the counts of their paths.
-use Rattle.std.specs.Prelude.{◌≡◌, ◌≢◌, ⊤, ℕ, ◌+◌, ◌-◌, ◌^◌, ◌<◌, ◌≤◌, min, false, All, List, [], ◌++◌, length, map, take, Option, Some, count_by, slice_get, slice_index_or}
+use Rattle.std.specs.Prelude.{◌≡◌, ◌≢◌, ⊤, ℕ, ◌+◌, ◌-◌, ◌^◌, ◌<◌, ◌≤◌, min, Bool, true, false, IsTrue, All, List, [], ◌++◌, length, map, take, Option, Some, count_by, slice_get, slice_index_or}
 use Rattle.vd_outside.specs.Clocks.{ClockSeen}
 use Rattle.vd_arm.specs.Arm.{Counted, PassSeen}
 use Rattle.vd_disk.specs.Disk.{DiskSeen}
@@ -29,8 +29,11 @@ use Rattle.plan_resumed.specs.Going.{GoesOn, went_on}
 use Rattle.plan_resumed.specs.Resumed.{RunsResumed}
 use Rattle.plan_resumed.specs.Resumed as resumed
 use Rattle.plan_resumed.specs.Seating.{with_passes}
-use Rattle.plan_journals.specs.Open.{Start}
+use Rattle.plan_journals.specs.Closing.{WentWell}
+use Rattle.plan_journals.specs.Open.{Start, new_starts}
 use Rattle.plan_verified.specs.Stores.{StoreSeen}
+use Rattle.plan_kept.specs.Laws.{JournalsCount}
+use Rattle.plan_totals.specs.Drawn.{AllTurnsMade, LineIsDrawn, TurnsAreTold}
 use Rattle.plan_totals.specs.Made.{MadeRun, PlanRuns, StoreOf, findings_of, made_of, sum_of, tallies_of, texts_of}
 use Rattle.plan_totals.specs.Sentences.{IsCounted, RoseBy}
 use Rattle.run_totals.specs.Sentences.{FindingsAreCounted}
@@ -90,40 +93,57 @@ module _ {P B : Type 0} (pass_seen : P → PassSeen) (book_seen : B → BookSeen
         × RoseBy 0 (good_writes all.before.yard.counts path) (good_writes all.last.yard.counts path)
     pub stores : (its : StoreOf pass_seen book_seen all) → StoreAddsUp all its
 
+  -- The turns of each run's workers are as its slave lines say. Where the command ended well, each total line of a store of which no block was bad
+  -- as the runs began, as none is in new data, is that of the turns that its workers drew; and over a clock that stands still, and early, all turns
+  -- of each run were made.
+  pub record RunsAreDrawn (anew : Bool) (ended : Status) (all : PlanRuns pass_seen book_seen) : Type 0 where
+    pub turns : All TurnsAreTold (made_of pass_seen book_seen all)
+    pub lines : ended ≡ status.Good → (its : StoreOf pass_seen book_seen all) → (anew ≡ false → total bad (book_of its.hand).now ≡ 0)
+        → All (LineIsDrawn all.plan.reread its.store.id.geometry its.place) (made_of pass_seen book_seen all)
+    pub still : ended ≡ status.Good → IsTrue all.before.clock.still → all.before.clock.last < 2 ^ 63 → All AllTurnsMade (made_of pass_seen book_seen all)
+
   -- Those of all stores, whose blocks were looked at so.
   abbrev pub AllCountsAddUp : YardSeen → YardSeen → List (List Look) → PlanRuns pass_seen book_seen → Type 0
   AllCountsAddUp old new seen all = (its : StoreOf pass_seen book_seen all)
       → CountsAddUp old new (count_by is_seen (slice_index_or seen its.place [])) (count_by is_unread (slice_index_or seen its.place [])) all its
 
-  -- Runs of a valid plan begin with a hand for each of its stores, and add up; and so do the counts, by what was looked at before them.
-  abbrev pub AddUp : (old new : YardSeen) (seen : List (List Look)) (plan : Plan) (before last : Stage) (text : List ℕ) (result : Status) → RunsMade pass_seen book_seen plan plan.runs before last text result → Type 0
-  AddUp old new seen plan before last text result runs =
+  -- Runs of a valid plan begin with a hand for each of its stores, add up, and are drawn, over new data or not, by a command that ended so; and
+  -- the counts add up by what was looked at before them.
+  abbrev pub AddUp : (anew : Bool) (ended : Status) (old new : YardSeen) (seen : List (List Look)) (plan : Plan) (before last : Stage) (text : List ℕ) (result : Status) → RunsMade pass_seen book_seen plan plan.runs before last text result → Type 0
+  AddUp anew ended old new seen plan before last text result runs =
       (valid : IsPlan plan) → (stores : AreStores plan before.hands)
       × RunsAddUp (record { plan = plan; before = before; last = last; text = text; result = result; valid = valid; stores = stores; runs = runs })
+      × RunsAreDrawn anew ended (record { plan = plan; before = before; last = last; text = text; result = result; valid = valid; stores = stores; runs = runs })
       × AllCountsAddUp old new seen (record { plan = plan; before = before; last = last; text = text; result = result; valid = valid; stores = stores; runs = runs })
 
--- What was made adds up: of runs without journals, of runs over new ones, and of runs over those that are there.
+-- What was made adds up: of runs without journals, of runs over new ones, and of runs over those that are there. Of each store the journal, as
+-- it is kept then, has as many ends stored as the total lines have writes, in the epoch in which it was made or opened, with a status of 0,
+-- 1 or 2, and where the yard tells the disks that it keeps.
 abbrev pub QuietlyAddUp : {P B : Type 0} (pass_seen : P → PassSeen) (book_seen : B → BookSeen) (old : YardSeen) (plan : Plan) (before after : Stage) (text : List ℕ) (result : Status)
     → RunsQuietly pass_seen book_seen plan before after text result → Type 0
-QuietlyAddUp pass_seen book_seen old plan before after text result (quietly.all_made last runs hands back clock printing) = AddUp pass_seen book_seen old after.yard [] plan before last text result runs
+QuietlyAddUp pass_seen book_seen old plan before after text result (quietly.all_made last runs hands back clock printing) = AddUp pass_seen book_seen true result old after.yard [] plan before last text result runs
 QuietlyAddUp pass_seen book_seen old plan before after text result (none_made yard clock printing none memory) = ⊤
 
 abbrev pub JournaledAddUp : {P B : Type 0} (pass_seen : P → PassSeen) (book_seen : B → BookSeen) (old : YardSeen) (plan : Plan) (before after : Stage) (text : List ℕ) (result : Status)
     → RunsJournaled pass_seen book_seen plan before after text result → Type 0
 JournaledAddUp pass_seen book_seen old plan before after text result (journaled.ran books opened said all_open rest closed texts) =
-    AddUp pass_seen book_seen old after.yard [] plan (stage (with_books books) opened before.clock 0 said) closed.last closed.runs_text closed.work closed.made
+    AddUp pass_seen book_seen true result old after.yard [] plan (stage (with_books books) opened before.clock 0 said) closed.last closed.runs_text closed.work closed.made
+    × ((valid : IsPlan plan) (stores : AreStores plan (with_books books)) → WentWell result → IsTrue before.yard.tells.keeps_disks
+    → JournalsCount pass_seen book_seen plan valid (stage (with_books books) opened before.clock 0 said) after rest result closed stores (new_starts plan.journal_sectors plan.stores))
 JournaledAddUp pass_seen book_seen old plan before after text result other = ⊤
 
-abbrev pub GoingAddsUp : {P B : Type 0} (pass_seen : P → PassSeen) (book_seen : B → BookSeen) (old : YardSeen) (seen : List (List Look)) (plan : Plan) (disks : List DiskSeen) (starts : List Start) (left : List StoreSeen) (before after : Stage) (text : List ℕ) (result : Status)
+abbrev pub GoingAddsUp : {P B : Type 0} (pass_seen : P → PassSeen) (book_seen : B → BookSeen) (ended : Status) (old : YardSeen) (seen : List (List Look)) (plan : Plan) (disks : List DiskSeen) (starts : List Start) (left : List StoreSeen) (before after : Stage) (text : List ℕ) (result : Status)
     → GoesOn pass_seen book_seen plan disks starts left before after text result → Type 0
-GoingAddsUp pass_seen book_seen old seen plan disks starts left before after text result (went_on books said opened on seated rest closed texts) =
-    AddUp pass_seen book_seen old after.yard seen plan (stage (with_passes left books) before.yard before.clock 0 said) closed.last closed.runs_text closed.work closed.made
-GoingAddsUp pass_seen book_seen old seen plan disks starts left before after text result other = ⊤
+GoingAddsUp pass_seen book_seen ended old seen plan disks starts left before after text result (went_on books said opened on seated rest closed texts) =
+    AddUp pass_seen book_seen false ended old after.yard seen plan (stage (with_passes left books) before.yard before.clock 0 said) closed.last closed.runs_text closed.work closed.made
+    × ((valid : IsPlan plan) (stores : AreStores plan (with_passes left books)) → WentWell result → IsTrue before.yard.tells.keeps_disks
+    → JournalsCount pass_seen book_seen plan valid (stage (with_passes left books) before.yard before.clock 0 said) after rest result closed stores starts)
+GoingAddsUp pass_seen book_seen ended old seen plan disks starts left before after text result other = ⊤
 
 abbrev pub ResumedAddUp : {P B : Type 0} (pass_seen : P → PassSeen) (book_seen : B → BookSeen) (old : YardSeen) (plan : Plan) (before after : Stage) (starts : List Start) (text : List ℕ) (result : Status)
     → RunsResumed pass_seen book_seen plan before after starts text result → Type 0
 ResumedAddUp pass_seen book_seen old plan before after starts text result (resumed.resumed found recovered said have unfailed seen left verified told looked from rest after_that goes texts is) =
-    GoingAddsUp pass_seen book_seen old seen plan have.disks starts left (stage [] verified before.clock 0 told) after rest after_that goes
+    GoingAddsUp pass_seen book_seen result old seen plan have.disks starts left (stage [] verified before.clock 0 told) after rest after_that goes
 ResumedAddUp pass_seen book_seen old plan before after starts text result other = ⊤
 
 -- All runs of a command add up.

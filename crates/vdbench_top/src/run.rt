@@ -6,25 +6,31 @@ ghost use Rattle.vd_yard.specs.Out.{AtSource};
 ghost use Rattle.vd_yard.specs.Yard.{StaysThere, is_there};
 ghost use Rattle.plan_types.specs.Valid.{IsPlan};
 ghost use Rattle.run_report.specs.Says.{Says, printing};
+ghost use Rattle.run_report.specs.declared.status.Status.{Status as AStatus};
+ghost use Rattle.plan_kept.specs.Fits.{FitsItsJournal};
 ghost use Rattle.plan_runs.specs.Stages.{stage};
 ghost use Rattle.vdbench_top.specs.Calls.{StillCall};
-ghost use Rattle.vdbench_top.specs.Kept.{DataFitsJournals, EndsWell, KeepsFitting, NothingFails};
+ghost use Rattle.vdbench_top.specs.Clean.{CallFindsNone, SaidFindsNone};
+ghost use Rattle.vdbench_top.specs.Headline.{EveryInterleaving, ReportsExactly};
+ghost use Rattle.vdbench_top.specs.Kept.{DataFitsJournals, EndsWell, KeepsFitting, NothingFails, OfItsStores};
 ghost use Rattle.vdbench_top.specs.Runs.{CanEndAs, HasJournals, HasNoPlan, MakesJournals, NoJournalEnd, OnlyReads, RunCall, RunsFile, UsesJournals, rereading};
-ghost use Rattle.vdbench_top.specs.Still.{IsPlanOf};
+ghost use Rattle.vdbench_top.specs.Still.{IsPlanOf, SaidOfFile};
 ghost use Rattle.vdbench_top.specs.Sums.{CallAddsUp};
-ghost use Rattle.vdbench_top.specs.Words.{Asked, asked, run_of};
+ghost use Rattle.vdbench_top.specs.Words.{Asked, asked, file_of, run_of, shows_plan};
 
 use crate::source::{Unread, read_file};
 use crate::still::{end, vdbench_still};
 use crate::words::{Keeping, run_of_words};
+use block_verdict::verdict_laws;
+use interleave_core::stays_sound;
 use journal_core::JournalBook;
 use key_state::{Book, QuietBook};
 use plan_file::{Unplanned, plan_of_file};
 use plan_journaled::run_journaled;
-use plan_kept::{ending_laws, kept_laws, sound_laws};
+use plan_kept::{count_laws, ending_laws, kept_laws, sound_laws};
 use plan_resumed::run_resumed;
 use plan_runs::run_quietly;
-use plan_totals::runs_add_up;
+use plan_totals::{runs_add_up, runs_are_drawn};
 use plan_types::Plan;
 use run_report::{Printer, Status, cannot_open_line, cannot_read_line};
 use std::alloc::Global;
@@ -238,11 +244,22 @@ where
     ensures sink_fault { result ≡ Status.Sink → Rose (S.faults out.old) (S.faults out.new) }
     ensures sink_quiet { result ≢ Status.Sink → S.faults out.new ≡ S.faults out.old }
 
-    // What the runs printed adds up: with its errors, its stores' books, and the counts of their paths. And where the yard tells the data that
-    // it keeps, none of these commands ends by the status of a corrupt block, where the data fitted the journals that were there.
+    // What the runs printed adds up: with its errors, its stores' books, and the counts of their paths; and with a status of 0 the totals are those
+    // of the turns that the workers drew. And where the yard tells the data that it keeps, none of these commands ends by the status of a corrupt
+    // block, where the data fitted the journals that were there.
     ensures adds_up { (asks : Asked) → run_of (map string_bytes words.now) ≡ Some asks →
         (call : RunCall Y.Arm.Pass.seen ⟦<JournalBook<Y::Disk> as Book>⟧.seen (Y.seen yard.old) (Y.seen yard.new) (C.seen clock.old) (C.seen clock.new) (S.taken out.old) (S.taken out.new) (S.faults out.old) (S.faults out.new) asks result) → CallAddsUp call }
     ensures sound { (asks : Asked) → run_of (map string_bytes words.now) ≡ Some asks → IsTrue (Y.seen yard.old).tells.keeps_contents → DataFitsJournals (Y.seen yard.old) asks → result ≢ Status.Corrupt }
+
+    // Nor has any of them, whatever its status, a line that says so; and neither has a still command, where the data of each store fits the
+    // journal that is there.
+    ensures finds_none { (asks : Asked) → run_of (map string_bytes words.now) ≡ Some asks → IsTrue (Y.seen yard.old).tells.keeps_contents → DataFitsJournals (Y.seen yard.old) asks →
+        (call : RunCall Y.Arm.Pass.seen ⟦<JournalBook<Y::Disk> as Book>⟧.seen (Y.seen yard.old) (Y.seen yard.new) (C.seen clock.old) (C.seen clock.new) (S.taken out.old) (S.taken out.new) (S.faults out.old) (S.faults out.new) asks result) → CallFindsNone call }
+    ensures still_finds_none { (file : List ℕ) → IsTrue (Y.seen yard.old).tells.keeps_contents → OfItsStores (Y.seen yard.old) file (FitsItsJournal (Y.seen yard.old)) →
+        (text : List ℕ) (said : AStatus) (says : SaidOfFile (Y.seen yard.old) (Y.seen yard.new) (shows_plan (map string_bytes words.now)) file text said)
+        → SaidFindsNone (Y.seen yard.old) (Y.seen yard.new) (shows_plan (map string_bytes words.now)) file text said says }
+    ensures still_sound { run_of (map string_bytes words.now) ≡ None → (file : List ℕ) → file_of (map string_bytes words.now) ≡ Some file → IsTrue (Y.seen yard.old).tells.keeps_contents
+        → OfItsStores (Y.seen yard.old) file (FitsItsJournal (Y.seen yard.old)) → result ≢ Status.Corrupt }
 
     // Where the yard tells what it keeps, with a status of 0, 1 or 2 the kept data of each store fits whatever a stop may leave of its journal;
     // over journals that were there, of each store whose data fitted, or whose arms are sure.
@@ -252,15 +269,25 @@ where
     // epoch is over.
     ensures completes { (asks : Asked) → run_of (map string_bytes words.now) ≡ Some asks → NothingFails (Y.seen yard.old) (Y.seen yard.new) (S.faults out.old) (S.faults out.new) asks → EndsWell asks result }
 
+    // What each of this stands on: no order of events brings a block into two operations, a history that isn't legal, or, at whatever stop,
+    // sectors that don't fit; and a block that was read is reported exactly where a sector of it matches no key that its entry permits.
+    ensures interleavings { EveryInterleaving }
+    ensures reports { ReportsExactly }
+
     // Runs without journals end by none of the statuses of journals or of words; those over new journals by none of words or of what a
     // journal has in it; and those over old ones by none of words.
     ensures can { (asks : Asked) → run_of (map string_bytes words.now) ≡ Some asks → (result ≡ Status.Sink) ⊎ CanEndAs asks.keeping result }
 {
+    stays_sound();
+    verdict_laws();
     runs_add_up::<<Y::Arm as Arm>::Pass, QuietBook>();
     runs_add_up::<<Y::Arm as Arm>::Pass, JournalBook<Y::Disk>>();
+    runs_are_drawn::<<Y::Arm as Arm>::Pass, QuietBook>();
+    runs_are_drawn::<<Y::Arm as Arm>::Pass, JournalBook<Y::Disk>>();
     sound_laws::<<Y::Arm as Arm>::Pass, QuietBook>();
     sound_laws::<<Y::Arm as Arm>::Pass, JournalBook<Y::Disk>>();
     kept_laws::<<Y::Arm as Arm>::Pass, JournalBook<Y::Disk>>();
+    count_laws::<<Y::Arm as Arm>::Pass, JournalBook<Y::Disk>>();
     ending_laws::<<Y::Arm as Arm>::Pass, QuietBook>();
     ending_laws::<<Y::Arm as Arm>::Pass, JournalBook<Y::Disk>>();
     match run_of_words(words) {
